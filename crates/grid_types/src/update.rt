@@ -1,0 +1,19 @@
+//! Records, and what an update does with one.
+
+use crate::{Data, Key};
+
+/// A key with its data.
+#[derive(Debug, Default, Drop, PartialEq, Eq)]
+pub struct Record<const K: usize> {
+    pub key: Key<K>,
+    pub value: Data,
+}
+
+/// A change of the table.
+#[derive(Debug, Drop, PartialEq, Eq)]
+pub enum Update<const K: usize> {
+    /// From now on the key has this data.
+    Put(Record<K>),
+    /// From now on the key is absent.
+    Remove(Key<K>),
+}
