@@ -1,0 +1,5 @@
+pub mod Causes
+pub mod Disk
+pub mod Moments
+pub mod Bay
+pub mod Streams

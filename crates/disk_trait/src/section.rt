@@ -1,0 +1,30 @@
+//! A write that is on the disk when it is done.
+ghost use Rattle.std.specs.Prelude.{◌≡◌, ◌≤◌, List, ℕ, IsTrue, length, OnOk};
+ghost use Rattle.disk_trait.specs.Causes.{HasCause};
+ghost use Rattle.disk_trait.specs.Disk.{Only, Follows, Agrees, Holds, InOnePage};
+ghost use Rattle.disk_trait.specs.Moments.{After, LeavesOnly};
+
+use crate::{Disk, DiskFailed};
+
+/// Writes the bytes and syncs. At each moment of it a crash leaves what it might have left before, but for these bytes.
+pub fn write_through<D: Disk>(disk: &mut D, at: u64, bytes: &[u8]) -> Result<(), DiskFailed>
+    requires { InOnePage at (length bytes.now) (D.extent disk.old) }
+    ensures written { IsTrue (D.honest disk.old) → OnOk result (Holds (D.seen disk.old) at bytes.now (D.seen disk.new)) }
+    ensures durable { IsTrue (D.honest disk.old) → OnOk result (Only (D.seen disk.new) (D.may_leave disk.new)) }
+    ensures outside { IsTrue (D.honest disk.old) → Agrees at (length bytes.now) (D.seen disk.old) (D.seen disk.new) }
+    ensures crash { IsTrue (D.honest disk.old) → Follows (Agrees at (length bytes.now)) (D.may_leave disk.old) (D.may_leave disk.new) }
+    ensures moments { IsTrue (D.honest disk.old) → LeavesOnly D.moment D.left_since disk.old disk.new (After (Agrees at (length bytes.now)) (D.may_leave disk.old)) }
+    ensures extent { D.extent disk.new ≡ D.extent disk.old }
+    ensures honest { D.honest disk.new ≡ D.honest disk.old }
+    ensures cause { HasCause (D.write_count disk.old) (D.write_count disk.new) result }
+    ensures other { D.read_count disk.old ≤ D.read_count disk.new }
+{
+    match disk.write(at, bytes) {
+        Ok(()) => {}
+        Err(DiskFailed) => return Err(DiskFailed),
+    }
+    match disk.sync() {
+        Ok(()) => Ok(()),
+        Err(DiskFailed) => Err(DiskFailed),
+    }
+}
