@@ -1,0 +1,5 @@
+pub mod Tables
+pub mod OneBucket
+pub mod Script
+pub mod Text
+pub mod Laws

@@ -1,0 +1,41 @@
+-- A table is a finite map from keys to data: the list of its entries, in the order of their keys.
+use Rattle.std.specs.Prelude.{ℕ, List, T, not, Option, map}
+use Rattle.std.specs.Ordering.{eq_by_cmp}
+use Rattle.std.specs.FinMap.Entries.{put, where_key, find, is_sorted}
+use Rattle.grid_types.specs.declared.update.Record.{Record}
+use Rattle.grid_types.specs.declared.update.Update.{Update}
+use Rattle.grid_types.specs.declared.update.Update.TheVariants.{Put, Remove}
+use Rattle.grid_types.specs.Keys.{key_cmp}
+
+-- an entry is a key, as the list of its numbers, with its data
+abbrev pub Table : Type 0
+Table = List (List ℕ × List ℕ)
+
+-- entries are a table where each key stands below the next
+abbrev pub IsTable : Table → Type 0
+IsTable t = T (is_sorted key_cmp t)
+
+-- the data that a table has at a key
+abbrev pub get : Table → List ℕ → Option (List ℕ)
+get t k = find key_cmp k t
+
+-- the table with this data at that key
+abbrev pub with_data : Table → List ℕ → List ℕ → Table
+with_data t k d = put key_cmp k d t
+
+-- the table without that key
+abbrev pub without : Table → List ℕ → Table
+without t k = where_key key_cmp (λ x. not (eq_by_cmp key_cmp k x)) t
+
+-- what an update makes of a table
+unfoldable pub effect : {K : ℕ} → Table → Update K → Table
+effect t (Put r) = with_data t r.key.at r.value
+effect t (Remove k) = without t k.at
+
+-- a record is an entry: its key with its data
+abbrev pub entry : {K : ℕ} → Record K → List ℕ × List ℕ
+entry r = (r.key.at, r.value)
+
+-- the entries of some records
+abbrev pub entries_of : {K : ℕ} → List (Record K) → Table
+entries_of rows = map entry rows
