@@ -25,11 +25,14 @@ impl<const K: usize> Region<K> {
         }
     }
 
+    /// Whether the region has the key.
     pub fn contains(&self, key: &Key<K>) -> bool
-        ensures { IsTrue result ↔ Within self.now.lo self.now.hi key.now.at }
+        ensures within { IsTrue result ↔ Within self.now.lo self.now.hi key.now.at }
+        ensures key { IsKey K key.now.at }
     {
+        let at = key.numbers();
         for a in 0..K {
-            if key.at[a] < self.lo[a] || self.hi[a] < key.at[a] {
+            if at[a] < self.lo[a] || self.hi[a] < at[a] {
                 return false;
             }
         }

@@ -1,0 +1,42 @@
+-- Input that comes piece by piece.
+use Rattle.std.proofs.Common.{◌≡◌, ◌≤◌, ◌+◌, ℕ, List, [], ◌++◌, length, take, drop, refl, sym, ap, ◌∙◌, length-append, arith}
+use Rattle.std.proofs.lemmas.List.{take-append-drop, take-append-le, take-take, drop-take, drop-drop, take_all, length-take-le, length-drop}
+use Rattle.disk_trait.specs.Streams.{Takes}
+
+take_split : (at n : ℕ) (xs : List ℕ) → take (at + n) xs ≡ take at xs ++ take n (drop at xs)
+take_split at n xs = sym (take-append-drop at (take (at + n) xs)) ∙ rw (take-take at (at + n) xs (omega arith), drop-take at n xs) refl
+
+-- a piece of which n bytes are kept
+pub length-piece : (out other : List ℕ) (n : ℕ) → n ≤ length out → length (take n (out ++ other)) ≡ n
+length-piece out other n le = ap length (take-append-le n out other le) ∙ length-take-le n out le
+
+-- what is in hand after a piece more, of which n bytes were asked to be kept
+pub in_hand : (had out other now : List ℕ) (n : ℕ) → n ≤ length out → now ≡ had ++ take n (out ++ other) → now ≡ had ++ take n out
+in_hand had out other now n le e = e ∙ ap (λ (p : List ℕ). had ++ p) (take-append-le n out other le)
+
+pub length-in_hand : (had out other now : List ℕ) (n : ℕ) → n ≤ length out → now ≡ had ++ take n (out ++ other) → length now ≡ length had + n
+length-in_hand had out other now n le e = ap length (in_hand had out other now n le e) ∙ length-append had (take n out) ∙ omega (arith, length-take-le n out le)
+
+module _ (all had out other now left rest : List ℕ) (n : ℕ) (le : n ≤ length out) (e : now ≡ had ++ take n (out ++ other)) (l : left ≡ drop (length had) all) (t : Takes left rest out n) where
+  -- it is a front of the input
+  pub front_more : had ≡ take (length had) all → now ≡ take (length now) all
+  front_more h =
+      in_hand had out other now n le e
+      ∙ ap (λ (p : List ℕ). had ++ p) (t.given ∙ ap (take n) l)
+      ∙ ap (λ (f : List ℕ). f ++ take n (drop (length had) all)) h
+      ∙ sym (take_split (length had) n all)
+      ∙ ap (λ (k : ℕ). take k all) (sym (length-in_hand had out other now n le e))
+
+  -- and the rest is what stands behind it
+  pub rest_more : rest ≡ drop (length now) all
+  rest_more = t.left ∙ ap (drop n) l ∙ drop-drop n (length had) all ∙ ap (λ (k : ℕ). drop k all) (sym (length-in_hand had out other now n le e))
+
+-- the end of the input: nothing is left
+pub all_taken : (all had left : List ℕ) (most : ℕ) → had ≡ take (length had) all → left ≡ drop (length had) all → left ≡ [] → length had ≤ most → had ≡ take most all
+all_taken all had left most h l none le =
+    let short : length all ≤ length had = omega (arith, ap length (sym l ∙ none), length-drop (length had) all) in
+    h ∙ take_all (length had) all short ∙ sym (take_all most all (omega (arith, short, le)))
+
+-- or there is as much as was wanted
+pub enough_taken : (all had : List ℕ) (most : ℕ) → had ≡ take (length had) all → length had ≡ most → had ≡ take most all
+enough_taken all had most h e = h ∙ ap (λ (k : ℕ). take k all) e

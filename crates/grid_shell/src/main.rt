@@ -1,0 +1,8 @@
+//! The program: a grid file on the command line.
+#![tactic(auto)]
+
+mod command;
+mod ending;
+mod input;
+
+fn main() {}
