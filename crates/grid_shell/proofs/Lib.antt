@@ -1,2 +1,3 @@
 pub mod Pairs
 pub mod Pieces
+pub mod Worst

@@ -1,5 +1,9 @@
--- How a run ends, as a status.
-use Rattle.std.specs.Prelude.{ℕ}
+-- How a run ends, as a status and a text.
+use Rattle.std.specs.Prelude.{ℕ, ◌++◌, List, [], ◌∷◌, codes, decimal, max}
+use Rattle.grid_types.specs.declared.refusal.Refusal.{Refusal}
+use Rattle.grid_types.specs.declared.refusal.Refusal.TheVariants as refusal
+use Rattle.grid_types.specs.declared.request.Reply.{Reply}
+use Rattle.grid_types.specs.declared.request.Reply.TheVariants as reply
 use Rattle.grid_shell.specs.declared.ending.Ending.{Ending}
 use Rattle.grid_shell.specs.declared.ending.Ending.TheVariants.{Done, BadWords, BadScript, Damaged, Device, Memory, Refused}
 
@@ -12,3 +16,52 @@ status_of Damaged = 4
 status_of Device = 5
 status_of Memory = 6
 status_of Refused = 7
+
+-- where a device has failed too, that is the end, but for an end that came before the run began or has a greater status
+abbrev pub with_fault_of : Ending → Ending
+with_fault_of Done = Device
+with_fault_of BadWords = BadWords
+with_fault_of (BadScript line) = BadScript line
+with_fault_of Damaged = Device
+with_fault_of Device = Device
+with_fault_of Memory = Memory
+with_fault_of Refused = Refused
+
+-- what is told of an end on the error sink
+abbrev pub error_text : Ending → List ℕ
+error_text Done = []
+error_text BadWords = codes "grid: words\n"
+error_text (BadScript line) = codes "grid: script line " ++ (decimal line ++ codes "\n")
+error_text Damaged = []
+error_text Device = codes "grid: device\n"
+error_text Memory = codes "grid: memory\n"
+error_text Refused = []
+
+-- the end that a refused line makes
+abbrev pub refusal_end : Refusal → Ending
+refusal_end refusal.NoMemory = Memory
+refusal_end refusal.ReadFault = Device
+refusal_end refusal.WriteFault = Device
+refusal_end (refusal.Unsure faults before) = Refused
+refusal_end (refusal.Stopped faults opened) = Refused
+refusal_end (refusal.Full free need) = Refused
+refusal_end (refusal.NoCut cells boundaries) = Refused
+refusal_end (refusal.Damaged page) = Damaged
+refusal_end refusal.Foreign = Damaged
+refusal_end (refusal.Version found) = Damaged
+refusal_end refusal.Seats = Refused
+refusal_end refusal.BadShape = Refused
+refusal_end refusal.BadQuery = Refused
+refusal_end (refusal.Worn count) = Refused
+refusal_end (refusal.Arity found) = Damaged
+
+-- the end that a line makes
+abbrev pub line_end : Reply → Ending
+line_end (reply.Put a) = Done
+line_end (reply.Got a) = Done
+line_end (reply.Refused why) = refusal_end why
+
+-- the greatest status that some lines make
+unfoldable pub worst_of : List Reply → ℕ
+worst_of [] = 0
+worst_of (r ∷ rs) = max (status_of (line_end r)) (worst_of rs)

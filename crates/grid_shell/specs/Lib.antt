@@ -1,4 +1,3 @@
 pub mod Commands
 pub mod Endings
-pub mod Standing
 pub mod Runs

@@ -1,8 +1,10 @@
 //! How a run ends.
 ghost use Rattle.std.specs.Prelude.{◌≡◌, max};
-ghost use Rattle.grid_shell.specs.Endings.{status_of};
+ghost use Rattle.grid_shell.specs.Endings.{status_of, with_fault_of, refusal_end, line_end, worst_of};
 
-/// How a run ends, from the best end to the worst; each has a status of its own.
+use grid_types::{Refusal, Reply};
+
+/// How a run ends. Each end has a status of its own, and later ones have greater statuses.
 #[derive(Clone, Copy, Debug, PartialEq, Eq)]
 pub enum Ending {
     /// Every line was answered.
@@ -37,8 +39,19 @@ impl Ending {
         }
     }
 
+    /// The end where a device has failed too.
+    pub fn with_fault(self) -> Ending
+        ensures { result ≡ with_fault_of self }
+    {
+        match self {
+            Ending::Done => Ending::Device,
+            Ending::Damaged => Ending::Device,
+            other => other,
+        }
+    }
+
     /// The one of greater status.
-    pub fn or_worse(self, other: Ending) -> Ending
+    fn or_worse(self, other: Ending) -> Ending
         ensures { status_of result ≡ max (status_of self) (status_of other) }
     {
         if self.status() < other.status() {
@@ -46,5 +59,46 @@ impl Ending {
         } else {
             self
         }
+    }
+
+    fn of_refusal(refusal: &Refusal) -> Ending
+        ensures { result ≡ refusal_end refusal.now }
+    {
+        match refusal {
+            Refusal::NoMemory => Ending::Memory,
+            Refusal::ReadFault | Refusal::WriteFault => Ending::Device,
+            Refusal::Damaged { .. }
+            | Refusal::Foreign
+            | Refusal::Version { .. }
+            | Refusal::Arity { .. } => Ending::Damaged,
+            Refusal::Unsure { .. }
+            | Refusal::Stopped { .. }
+            | Refusal::Full { .. }
+            | Refusal::NoCut { .. }
+            | Refusal::Seats
+            | Refusal::BadShape
+            | Refusal::BadQuery
+            | Refusal::Worn { .. } => Ending::Refused,
+        }
+    }
+
+    fn of_line(reply: &Reply) -> Ending
+        ensures { result ≡ line_end reply.now }
+    {
+        match reply {
+            Reply::Put(_) | Reply::Got(_) => Ending::Done,
+            Reply::Refused(refusal) => Ending::of_refusal(refusal),
+        }
+    }
+
+    /// The end of greatest status that the lines make.
+    pub fn worst(replies: &[Reply]) -> Ending
+        ensures { status_of result ≡ worst_of replies.now }
+    {
+        let mut worst = Ending::Done;
+        for reply in replies {
+            worst = worst.or_worse(Ending::of_line(reply));
+        }
+        worst
     }
 }
