@@ -1,0 +1,4 @@
+pub mod KeyTexts
+pub mod LinesOf
+pub mod Partings
+pub mod Readings

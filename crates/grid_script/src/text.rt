@@ -1,0 +1,181 @@
+//! Replies as text.
+ghost use Rattle.std.specs.Prelude.{◌≡◌, ◌≤◌, ◌+◌, ◌++◌, length, decimal, codes};
+ghost use Rattle.arrayvec.specs.ArrayVec.{array_vec_len};
+ghost use Rattle.grid_model.specs.Text.{hex_text, numbered, put_text, got_text, refusal_text, reply_text, reply_line, front_line};
+
+use arrayvec::ArrayVec;
+use grid_types::{Data, Refusal, Reply};
+use itoa::Buffer;
+
+/// Where text is gathered before it is written.
+pub type Text = ArrayVec<u8, 4096>;
+
+fn print_bytes(bytes: &[u8], out: &mut Text)
+    requires { array_vec_len out.old + length bytes.now ≤ 4096 }
+    ensures items { out.new.items ≡ out.old.items ++ bytes.now }
+    ensures len { array_vec_len out.new ≡ array_vec_len out.old + length bytes.now }
+{
+    match out.try_extend_from_slice(bytes) {
+        Ok(()) => {}
+        Err(_) => unreachable!(),
+    }
+}
+
+/// A word and a number, which has 20 digits at most.
+fn print_numbered(word: &[u8], n: u64, out: &mut Text)
+    requires { array_vec_len out.old + length word.now + 20 ≤ 4096 }
+    ensures items { out.new.items ≡ out.old.items ++ numbered word.now n }
+    ensures len { array_vec_len out.new ≤ array_vec_len out.old + length word.now + 20 }
+{
+    print_bytes(word, out);
+    let mut buffer = Buffer::new();
+    print_bytes(buffer.format(n).as_bytes(), out);
+}
+
+/// Data as hexadecimal digits, or as a dash where there is none.
+fn print_data(value: &Data, out: &mut Text)
+    requires { array_vec_len out.old + 80 ≤ 4096 }
+    ensures items { out.new.items ≡ out.old.items ++ hex_text value.now }
+    ensures len { array_vec_len out.new ≤ array_vec_len out.old + 80 }
+{
+    let bytes = value.bytes();
+    if bytes.is_empty() {
+        print_bytes(b"-", out);
+        return;
+    }
+    let mut digits = [0; 80];
+    let part = &mut digits[..2 * bytes.len()];
+    match hex::encode_to_slice(bytes, part) {
+        Ok(()) => print_bytes(part, out),
+        Err(_) => unreachable!(),
+    }
+}
+
+/// What a put found.
+fn print_put(value: &Option<Data>, out: &mut Text)
+    requires { array_vec_len out.old + 85 ≤ 4096 }
+    ensures items { out.new.items ≡ out.old.items ++ put_text value.now }
+    ensures len { array_vec_len out.new ≤ array_vec_len out.old + 85 }
+{
+    match value {
+        None => print_bytes(b" new", out),
+        Some(data) => {
+            print_bytes(b" old ", out);
+            print_data(data, out);
+        }
+    }
+}
+
+/// What a get found.
+fn print_got(value: &Option<Data>, out: &mut Text)
+    requires { array_vec_len out.old + 85 ≤ 4096 }
+    ensures items { out.new.items ≡ out.old.items ++ got_text value.now }
+    ensures len { array_vec_len out.new ≤ array_vec_len out.old + 85 }
+{
+    match value {
+        None => print_bytes(b" none", out),
+        Some(data) => {
+            print_bytes(b" = ", out);
+            print_data(data, out);
+        }
+    }
+}
+
+/// A word and a number, and another word and number.
+fn print_pair(first: &[u8], n: u64, second: &[u8], m: u64, out: &mut Text)
+    requires { array_vec_len out.old + length first.now + length second.now + 40 ≤ 4096 }
+    ensures items { out.new.items ≡ out.old.items ++ (numbered first.now n ++ numbered second.now m) }
+    ensures len { array_vec_len out.new ≤ array_vec_len out.old + length first.now + length second.now + 40 }
+{
+    print_numbered(first, n, out);
+    print_numbered(second, m, out);
+}
+
+/// Why a line was refused. Those refusals that no line meets print nothing.
+fn print_refusal(refusal: &Refusal, out: &mut Text)
+    requires { array_vec_len out.old + 80 ≤ 4096 }
+    ensures items { out.new.items ≡ out.old.items ++ refusal_text refusal.now }
+    ensures len { array_vec_len out.new ≤ array_vec_len out.old + 80 }
+{
+    match *refusal {
+        Refusal::NoMemory => print_bytes(b"nomemory", out),
+        Refusal::ReadFault => print_bytes(b"readfault", out),
+        Refusal::WriteFault => print_bytes(b"writefault", out),
+        Refusal::Unsure { faults, before } => {
+            print_pair(b"unsure faults ", faults, b" before ", before, out);
+        }
+        Refusal::Stopped { faults, opened } => {
+            print_pair(b"stopped faults ", faults, b" opened ", opened, out);
+        }
+        Refusal::Full { free, need } => {
+            print_pair(b"full free ", free.into(), b" need ", need.into(), out);
+        }
+        Refusal::NoCut { cells, boundaries } => {
+            print_pair(
+                b"nocut cells ",
+                cells.into(),
+                b" boundaries ",
+                boundaries.into(),
+                out,
+            );
+        }
+        Refusal::Damaged { page } => print_numbered(b"damaged page ", page.into(), out),
+        Refusal::Worn { count } => print_numbered(b"worn ", count, out),
+        Refusal::Foreign
+        | Refusal::Version { .. }
+        | Refusal::Seats
+        | Refusal::BadShape
+        | Refusal::BadQuery
+        | Refusal::Arity { .. } => {}
+    }
+}
+
+/// A reply without the end of its line.
+fn print_answer(reply: &Reply, out: &mut Text)
+    requires { array_vec_len out.old + 127 ≤ 4096 }
+    ensures items { out.new.items ≡ out.old.items ++ reply_text reply.now }
+    ensures len { array_vec_len out.new ≤ array_vec_len out.old + 127 }
+{
+    match reply {
+        Reply::Put(answer) => {
+            print_numbered(b"@", answer.at, out);
+            print_put(&answer.value, out);
+        }
+        Reply::Got(answer) => {
+            print_numbered(b"@", answer.at, out);
+            print_got(&answer.value, out);
+        }
+        Reply::Refused(why) => print_refusal(why, out),
+    }
+}
+
+/// Adds the line of a reply. 128 bytes are enough for any.
+#[tactic(auto, unfolding(grid_model::specs::Text::reply_line))]
+pub fn print_reply(reply: &Reply, out: &mut Text)
+    requires room { array_vec_len out.old + 128 ≤ 4096 }
+    ensures line { out.new.items ≡ out.old.items ++ reply_line reply.now }
+    ensures len { array_vec_len out.new ≤ array_vec_len out.old + 128 }
+{
+    print_answer(reply, out);
+    print_bytes(b"\n", out);
+}
+
+/// Adds the line with the front.
+#[tactic(auto, unfolding(grid_model::specs::Text::front_line))]
+pub fn print_front(front: u64, out: &mut Text)
+    requires room { array_vec_len out.old + 128 ≤ 4096 }
+    ensures line { out.new.items ≡ out.old.items ++ front_line front }
+    ensures len { array_vec_len out.new ≤ array_vec_len out.old + 128 }
+{
+    print_numbered(b"front ", front, out);
+    print_bytes(b"\n", out);
+}
+
+/// Adds the line with the number of the client.
+pub fn print_client(out: &mut Text)
+    requires room { array_vec_len out.old + 128 ≤ 4096 }
+    ensures line { out.new.items ≡ out.old.items ++ codes "client 1\n" }
+    ensures len { array_vec_len out.new ≤ array_vec_len out.old + 128 }
+{
+    print_bytes(b"client 1\n", out);
+}
