@@ -1,3 +1,4 @@
+pub mod Lines
 pub mod Pairs
 pub mod Pieces
 pub mod Worst

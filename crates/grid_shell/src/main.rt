@@ -4,5 +4,6 @@
 mod command;
 mod ending;
 mod input;
+mod printing;
 
 fn main() {}

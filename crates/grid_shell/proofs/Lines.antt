@@ -1,0 +1,39 @@
+-- The text of a run, line by line.
+use Rattle.std.proofs.Common.{◌≡◌, ◌<◌, ◌+◌, ℕ, List, [], ◌∷◌, ◌++◌, length, take, get_or, refl, sym, ap, ◌∙◌, append_assoc, codes, arith}
+use Rattle.std.specs.List.{flat_map}
+use Rattle.std.proofs.lemmas.List.{append-nil, flat_map_more, take_more, take_all}
+use Rattle.grid_types.specs.declared.request.Reply.{Reply}
+use Rattle.grid_model.specs.Text.{reply_line, front_line, client_text, text}
+
+-- the line that names the client, where it was told anything
+abbrev pub title : List Reply → List ℕ
+title [] = []
+title (r ∷ rs) = codes "client 1\n"
+
+-- the title and the first lines
+abbrev pub lines_to : List Reply → ℕ → List ℕ
+lines_to rs i = title rs ++ flat_map reply_line (take i rs)
+
+pub lines_none : (rs : List Reply) → lines_to rs 0 ≡ title rs
+lines_none rs = append-nil (title rs)
+
+pub lines_more : (rs : List Reply) (i : ℕ) (d : Reply) → i < length rs → lines_to rs (i + 1) ≡ lines_to rs i ++ reply_line (get_or rs i d)
+lines_more rs i d lt = ap (λ qs. title rs ++ flat_map reply_line qs) (take_more rs i d lt) ∙ sym (flat_map_more reply_line (title rs) (take i rs) (get_or rs i d))
+
+titled : (rs : List Reply) → title rs ++ flat_map reply_line rs ≡ client_text rs
+unfolding client_text
+titled [] = refl
+titled (r ∷ rs) = refl
+
+pub all_lines : (rs : List Reply) (n front : ℕ) → length rs ≡ n → lines_to rs n ++ front_line front ≡ text rs front
+unfolding text
+all_lines rs n front e = ap (λ qs. (title rs ++ flat_map reply_line qs) ++ front_line front) (take_all n rs (omega (arith, e))) ∙ ap (λ (xs : List ℕ). xs ++ front_line front) (titled rs)
+
+-- one line more in the buffer
+pub one_more : (sent now before had all line next : List ℕ) → now ≡ before ++ line → sent ++ before ≡ had ++ all → next ≡ all ++ line → sent ++ now ≡ had ++ next
+one_more sent now before had all line next n e l =
+    ap (λ (xs : List ℕ). sent ++ xs) n
+    ∙ sym (append_assoc sent before line)
+    ∙ ap (λ (xs : List ℕ). xs ++ line) e
+    ∙ append_assoc had all line
+    ∙ ap (λ (xs : List ℕ). had ++ xs) (sym l)
