@@ -1,0 +1,3 @@
+pub mod BytesOf
+pub mod Parts
+pub mod ZeroParts
