@@ -2,11 +2,13 @@
 //! judged by whole slices.
 #![tactic(auto)]
 
+mod corner;
 mod judging;
 mod laws;
 mod numbers;
 mod writing;
 
+pub use corner::get_corner;
 pub use judging::zeros;
 pub use laws::number_law;
 pub use numbers::{get_u16, get_u32, get_u64, set_u16, set_u32, set_u64};
