@@ -1,0 +1,5 @@
+pub mod Growing
+pub mod Parts
+pub mod Places
+pub mod Standing
+pub mod Tables

@@ -1,0 +1,30 @@
+-- Parts of a page that are zeros.
+use Rattle.std.proofs.Common.{◌≡◌, ◌≤◌, ◌<◌, ◌+◌, ◌-◌, ℕ, List, length, take, drop, get_or, sym, ap, ◌∙◌, arith}
+use Rattle.std.specs.Prelude.{replicate, slice_index}
+use Rattle.std.proofs.lemmas.List.{get_or-take, get_or-drop, get_or-replicate, same_lists, get_or_default, length-take, length-drop, length-take-le, length-replicate}
+use Rattle.page_fields.specs.Fields.{AreZeros}
+
+-- a number of the part
+part_at : (from n : ℕ) (page : List ℕ) (i d : ℕ) → i < n → get_or (take n (drop from page)) i d ≡ get_or page (from + i) d
+part_at from n page i d lt = get_or-take n (drop from page) i d lt ∙ get_or-drop from page i d
+
+zero_at : (n size i d : ℕ) → n ≤ size → i < n → get_or (take n (replicate size 0)) i d ≡ 0
+zero_at n size i d le lt = get_or-take n (replicate size 0) i d lt ∙ get_or-replicate size i 0 d (omega arith)
+
+pub zeros_there : (from to size : ℕ) (page : List ℕ) → to ≤ size → take (to - from) (drop from page) ≡ take (to - from) (replicate size 0) → AreZeros from to page
+zeros_there from to size page le e i low high =
+    ap (λ (k : ℕ). get_or page k 0) (omega arith)
+    ∙ sym (part_at from (to - from) page (i - from) 0 (omega arith))
+    ∙ ap (λ (xs : List ℕ). get_or xs (i - from) 0) e
+    ∙ zero_at (to - from) size (i - from) 0 (omega arith) (omega arith)
+
+pub zeros_same : (from to size : ℕ) (page : List ℕ) → from ≤ to → to ≤ size → length page ≡ size → AreZeros from to page → take (to - from) (drop from page) ≡ take (to - from) (replicate size 0)
+zeros_same from to size page ordered le len zeros =
+    let left : length (take (to - from) (drop from page)) ≡ to - from = length-take-le (to - from) (drop from page) (simp length-drop (omega arith)) in
+    let right : length (take (to - from) (replicate {A = ℕ} size 0)) ≡ to - from = length-take-le (to - from) (replicate size 0) (omega (arith, length-replicate {A = ℕ} size 0)) in
+    same_lists _ _ (left ∙ sym right) (λ k d h.
+    let lt : k < to - from = omega arith in
+    part_at from (to - from) page k d lt
+    ∙ get_or_default page (from + k) d 0 (omega arith)
+    ∙ zeros (from + k) (omega arith) (omega arith)
+    ∙ sym (zero_at (to - from) size k d (omega arith) lt))

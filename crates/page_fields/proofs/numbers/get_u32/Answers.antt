@@ -1,0 +1,8 @@
+use Rattle.std.proofs.Common.{◌∙◌, ap}
+use Rattle.page_fields.specs.Fields.{number}
+use Rattle.page_fields.proofs.Parts.{rest_of}
+use Rattle.page_fields.proofs.numbers.get_u32.Goals as goal
+
+pub returns : goal.returns
+unfolding number
+returns c = c.read_u32.ensures ∙ ap (number 4) (rest_of c.args.at 4096 c.args.page.now c.told-page)

@@ -1,0 +1,18 @@
+//! Corners in the bytes of a page.
+ghost use Rattle.std.specs.Prelude.{◌≤◌, ◌+◌};
+ghost use Rattle.page_fields.specs.Corners.{CornerAt};
+
+use crate::get_u64;
+
+/// The corner whose numbers stand from an offset on.
+pub fn get_corner<const K: usize>(page: &[u8; 4096], at: usize) -> [u64; K]
+    requires room { at + 32 ≤ 4096 }
+    requires few { K ≤ 4 }
+    ensures { CornerAt K page.now at result }
+{
+    let mut corner = [0; K];
+    for a in 0..K {
+        corner[a] = get_u64(page, at + 8 * a);
+    }
+    corner
+}

@@ -1,0 +1,38 @@
+//! Fields that are written into a page. Each writer says what the page is then, and how far its front is known if it
+//! was known up to the field.
+ghost use Rattle.std.specs.Prelude.{◌≡◌, ◌≤◌, ◌+◌, ◌-◌, ◌++◌, length, replicate, take};
+ghost use Rattle.page_fields.specs.Fields.{replaced};
+ghost use Rattle.page_fields.specs.Padded.{numbers, padded};
+
+use crate::set_u64;
+
+pub fn put_bytes(page: &mut [u8; 4096], at: usize, bytes: &[u8])
+    requires { at + length bytes.now ≤ 4096 }
+    ensures written { page.new ≡ replaced at bytes.now page.old }
+    ensures front { take (at + length bytes.now) page.new ≡ take at page.old ++ bytes.now }
+{
+    page[at..at + bytes.len()].copy_from_slice(bytes);
+}
+
+/// Makes the bytes from one offset up to another 0.
+pub fn put_zeros(page: &mut [u8; 4096], from: usize, to: usize)
+    requires ordered { from ≤ to }
+    requires inside { to ≤ 4096 }
+    ensures written { page.new ≡ replaced from (replicate (to - from) 0) page.old }
+    ensures front { take to page.new ≡ take from page.old ++ replicate (to - from) 0 }
+{
+    page[from..to].fill(0);
+}
+
+/// Writes a corner into 32 bytes: its numbers, and zeros behind them.
+pub fn put_corner<const K: usize>(page: &mut [u8; 4096], at: usize, corner: &[u64; K])
+    requires room { at + 32 ≤ 4096 }
+    requires few { K ≤ 4 }
+    ensures written { page.new ≡ replaced at (padded 32 (numbers corner.now)) page.old }
+    ensures front { take (at + 32) page.new ≡ take at page.old ++ padded 32 (numbers corner.now) }
+{
+    for a in 0..K {
+        set_u64(page, at + 8 * a, corner[a]);
+    }
+    put_zeros(page, at + 8 * K, at + 32);
+}
