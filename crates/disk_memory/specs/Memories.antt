@@ -1,0 +1,41 @@
+-- What a disk in memory tells.
+use Rattle.std.specs.Prelude.{◌≡◌, ℕ, List, [], Bool, true, length}
+use Rattle.disk_trait.specs.Bay.{TellsAll}
+use Rattle.disk_memory.specs.declared.memory.Memory.{Memory}
+use Rattle.disk_memory.specs.Past.{held, Leaves, HadBeen}
+
+-- it tells its content
+abbrev pub honest : Memory → Bool
+honest m = true
+
+-- what reads give
+abbrev pub bytes_of : Memory → List ℕ
+bytes_of m = (held m.history).bytes
+
+-- how many bytes it has
+abbrev pub extent_of : Memory → ℕ
+extent_of m = length (bytes_of m)
+
+-- a crash now leaves what reads give, but for the ranges written since the last sync
+abbrev pub MayLeave : Memory → List ℕ → Type 0
+MayLeave m image = Leaves (held m.history) image
+
+-- how many changes there were
+abbrev pub moment_of : Memory → ℕ
+moment_of m = length m.history.changes
+
+-- a crash since that moment might have left this image
+abbrev pub LeftSince : Memory → ℕ → List ℕ → Type 0
+LeftSince m t image = HadBeen m.history t image
+
+-- one disk tells all that another tells
+abbrev pub TellsSame : Memory → Memory → Type 0
+TellsSame m n = TellsAll honest extent_of bytes_of MayLeave moment_of LeftSince m n
+
+-- reads of a new disk give this image, no crash has ever left anything else, no call has failed and none is to fail
+pub record IsFresh (image : List ℕ) (m : Memory) : Type 0 where
+  pub bytes : bytes_of m ≡ image
+  pub always : (t : ℕ) (c : List ℕ) → LeftSince m t c → c ≡ image
+  pub no_reads : m.reads ≡ 0
+  pub no_writes : m.writes ≡ 0
+  pub no_plan : m.plan ≡ []

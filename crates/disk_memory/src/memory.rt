@@ -1,0 +1,182 @@
+//! A disk in memory that tells all that it holds.
+ghost use Rattle.std.specs.Prelude.{◌≡◌, ◌+◌, ◌*◌, ◌%◌, ◌++◌, ◌∷◌, ◌≤◌, [], length, IfOk, OnOk, OnErr};
+ghost use Rattle.disk_trait.specs.Bay.{blank};
+ghost use Rattle.disk_trait.specs.Disk.{Holds};
+ghost use Rattle.disk_memory.specs.Past.{held};
+
+use crate::history::History;
+use crate::plan::Plan;
+use disk_trait::{Disk, DiskFailed, Steps};
+use std::alloc::{AllocError, Global};
+use std::sync::ledger::Ledger;
+
+const PAGE_SIZE: usize = 4096;
+
+/// A disk in memory, and the whole of what a crash may do to it.
+///
+/// Between two syncs a crash may leave anything in the ranges that were written since, also by writes that failed, and
+/// leaves all else as it was. Reads give each write's bytes at once. A write that was chosen to fail leaves what reads
+/// give as it was; one whose record finds no memory fails too, and changes nothing. No other call fails.
+#[derive(Drop)]
+pub struct Memory {
+    history: History,
+    bytes: Vec<u8>,
+    plan: Plan,
+    reads: u64,
+    writes: u64,
+    ghost kept: { bytes.items ≡ (held history).bytes },
+}
+
+impl Memory {
+    ghost use Rattle.disk_memory.specs.Memories.{bytes_of, extent_of, IsFresh, TellsSame};
+
+    /// A disk of that many pages, all zeros. It fails for want of memory, and where a `usize` can't count the bytes.
+    pub fn new(alloc: Global, pages: u64) -> Result<Memory, AllocError>
+        ensures extent { IfOk result (λ m. extent_of m ≡ pages * 4096) }
+        ensures zeros { IfOk result (IsFresh (blank (pages * 4096))) }
+    {
+        match (pages as usize).checked_mul(PAGE_SIZE) {
+            Some(size) => Memory::of(alloc, vec![in alloc; 0; size]?),
+            None => Err(AllocError),
+        }
+    }
+
+    /// A disk of whole pages with these bytes, all of them on the disk.
+    pub fn of(alloc: Global, bytes: Vec<u8>) -> Result<Memory, AllocError>
+        requires { length bytes.items % 4096 ≡ 0 }
+        ensures { IfOk result (IsFresh bytes.items) }
+    {
+        let history = History::new(alloc, &bytes)?;
+        Ok(Memory {
+            history,
+            bytes,
+            plan: Plan::new(alloc),
+            reads: 0,
+            writes: 0,
+        })
+    }
+
+    /// From now on that call fails, counted from 1 over reads, writes and syncs: 1 is the next of them.
+    pub fn fail(&mut self, call: u64) -> Result<(), AllocError>
+        ensures same { TellsSame self.new self.old }
+        ensures reads { self.new.reads ≡ self.old.reads }
+        ensures writes { self.new.writes ≡ self.old.writes }
+        ensures chosen { OnOk result (self.new.plan ≡ self.old.plan ++ call ∷ []) }
+        ensures refused { OnErr result (self.new.plan ≡ self.old.plan) }
+    {
+        self.plan.choose(call)
+    }
+
+    /// What reads give.
+    pub fn bytes(&self) -> &[u8]
+        ensures { result.now ≡ bytes_of self.now }
+    {
+        &self.bytes
+    }
+
+    /// The same disk, with no failures counted.
+    pub(crate) fn unfailed(self) -> Memory
+        ensures { result ≡ record self { reads = 0; writes = 0 } }
+    {
+        Memory {
+            history: self.history,
+            bytes: self.bytes,
+            plan: self.plan,
+            reads: 0,
+            writes: 0,
+        }
+    }
+}
+
+fn overwrite(all: &mut [u8], at: usize, bytes: &[u8])
+    requires { at + length bytes.now ≤ length all.old }
+    ensures { Holds all.old at bytes.now all.new }
+{
+    all[at..at + bytes.len()].copy_from_slice(bytes);
+}
+
+impl Disk for Memory {
+    ghost use Rattle.std.specs.Prelude.{length, refl};
+    ghost use Rattle.disk_memory.specs.Memories.{honest, bytes_of, extent_of, MayLeave, moment_of, LeftSince};
+    ghost use Rattle.disk_memory.specs.PastLaws.{leaves_itself, had_been_now, only_last};
+
+    ghost honest = { honest };
+
+    ghost extent = { extent_of };
+
+    ghost seen = { bytes_of };
+
+    ghost may_leave = { MayLeave };
+
+    ghost moment = { moment_of };
+
+    ghost left_since = { LeftSince };
+
+    ghost read_count = { λ m. m.reads };
+
+    ghost write_count = { λ m. m.writes };
+
+    ghost whole = { λ m h. refl };
+
+    ghost seen_now = { λ m h. leaves_itself m.history };
+
+    ghost counts_now = { λ m t c h le now. had_been_now m.history t c le now };
+
+    ghost only_now = { λ m c h left. only_last m.history c left };
+
+    fn size(&self) -> u64 {
+        self.bytes.len() as u64
+    }
+
+    fn read<L: Ledger>(
+        &mut self,
+        page: u64,
+        out: &mut [u8; 4096],
+        steps: &mut Steps<L>,
+    ) -> Result<(), DiskFailed> {
+        steps.tick();
+        if self.plan.is_next_chosen() {
+            self.reads = self.reads.saturating_add(1);
+            return Err(DiskFailed);
+        }
+        let at = page as usize * PAGE_SIZE;
+        out.copy_from_slice(&self.bytes[at..at + PAGE_SIZE]);
+        Ok(())
+    }
+
+    fn write(&mut self, at: u64, bytes: &[u8]) -> Result<(), DiskFailed> {
+        let at = at as usize;
+        if self.plan.is_next_chosen() {
+            self.writes = self.writes.saturating_add(1);
+            let _ = self.history.record_failed_write(at, bytes.len());
+            return Err(DiskFailed);
+        }
+        match self.history.record_write(at, bytes) {
+            Ok(()) => {
+                overwrite(&mut self.bytes, at, bytes);
+                Ok(())
+            }
+            Err(AllocError) => {
+                self.writes = self.writes.saturating_add(1);
+                Err(DiskFailed)
+            }
+        }
+    }
+
+    fn sync(&mut self) -> Result<(), DiskFailed> {
+        if self.plan.is_next_chosen() {
+            self.writes = self.writes.saturating_add(1);
+            return Err(DiskFailed);
+        }
+        self.history.record_sync();
+        Ok(())
+    }
+
+    fn read_faults(&self) -> u64 {
+        self.reads
+    }
+
+    fn write_faults(&self) -> u64 {
+        self.writes
+    }
+}
