@@ -5,8 +5,8 @@ use Rattle.disk_memory.specs.declared.memory.Memory.{Memory}
 use Rattle.disk_memory.specs.Past.{held, Leaves, HadBeen}
 
 -- it tells its content
-abbrev pub honest : Memory → Bool
-honest m = true
+abbrev pub is_told : Memory → Bool
+is_told m = true
 
 -- what reads give
 abbrev pub bytes_of : Memory → List ℕ
@@ -30,12 +30,24 @@ LeftSince m t image = HadBeen m.history t image
 
 -- one disk tells all that another tells
 abbrev pub TellsSame : Memory → Memory → Type 0
-TellsSame m n = TellsAll honest extent_of bytes_of MayLeave moment_of LeftSince m n
+TellsSame m n = TellsAll is_told extent_of bytes_of MayLeave moment_of LeftSince m n
+
+-- how many reads have failed
+abbrev pub failed_reads : Memory → ℕ
+failed_reads m = m.reads
+
+-- how many writes and syncs have failed
+abbrev pub failed_writes : Memory → ℕ
+failed_writes m = m.writes
+
+-- which calls are to fail, each counted from the next one on
+abbrev pub chosen_of : Memory → List ℕ
+chosen_of m = m.plan
 
 -- reads of a new disk give this image, no crash has ever left anything else, no call has failed and none is to fail
 pub record IsFresh (image : List ℕ) (m : Memory) : Type 0 where
   pub bytes : bytes_of m ≡ image
   pub always : (t : ℕ) (c : List ℕ) → LeftSince m t c → c ≡ image
-  pub no_reads : m.reads ≡ 0
-  pub no_writes : m.writes ≡ 0
-  pub no_plan : m.plan ≡ []
+  pub no_read_failed : failed_reads m ≡ 0
+  pub no_write_failed : failed_writes m ≡ 0
+  pub none_chosen : chosen_of m ≡ []

@@ -28,7 +28,7 @@ pub struct Memory {
 }
 
 impl Memory {
-    ghost use Rattle.disk_memory.specs.Memories.{bytes_of, extent_of, IsFresh, TellsSame};
+    ghost use Rattle.disk_memory.specs.Memories.{bytes_of, extent_of, failed_reads, failed_writes, chosen_of, IsFresh, TellsSame};
 
     /// A disk of that many pages, all zeros. It fails for want of memory, and where a `usize` can't count the bytes.
     pub fn new(alloc: Global, pages: u64) -> Result<Memory, AllocError>
@@ -59,10 +59,10 @@ impl Memory {
     /// From now on that call fails, counted from 1 over reads, writes and syncs: 1 is the next of them.
     pub fn fail(&mut self, call: u64) -> Result<(), AllocError>
         ensures same { TellsSame self.new self.old }
-        ensures reads { self.new.reads ≡ self.old.reads }
-        ensures writes { self.new.writes ≡ self.old.writes }
-        ensures chosen { OnOk result (self.new.plan ≡ self.old.plan ++ call ∷ []) }
-        ensures refused { OnErr result (self.new.plan ≡ self.old.plan) }
+        ensures reads { failed_reads self.new ≡ failed_reads self.old }
+        ensures writes { failed_writes self.new ≡ failed_writes self.old }
+        ensures chosen { OnOk result (chosen_of self.new ≡ chosen_of self.old ++ call ∷ []) }
+        ensures refused { OnErr result (chosen_of self.new ≡ chosen_of self.old) }
     {
         self.plan.choose(call)
     }
@@ -97,10 +97,10 @@ fn overwrite(all: &mut [u8], at: usize, bytes: &[u8])
 
 impl Disk for Memory {
     ghost use Rattle.std.specs.Prelude.{length, refl};
-    ghost use Rattle.disk_memory.specs.Memories.{honest, bytes_of, extent_of, MayLeave, moment_of, LeftSince};
+    ghost use Rattle.disk_memory.specs.Memories.{is_told, bytes_of, extent_of, MayLeave, moment_of, LeftSince, failed_reads, failed_writes};
     ghost use Rattle.disk_memory.specs.PastLaws.{leaves_itself, had_been_now, only_last};
 
-    ghost honest = { honest };
+    ghost honest = { is_told };
 
     ghost extent = { extent_of };
 
@@ -112,9 +112,9 @@ impl Disk for Memory {
 
     ghost left_since = { LeftSince };
 
-    ghost read_count = { λ m. m.reads };
+    ghost read_count = { failed_reads };
 
-    ghost write_count = { λ m. m.writes };
+    ghost write_count = { failed_writes };
 
     ghost whole = { λ m h. refl };
 
