@@ -67,13 +67,14 @@ module _ (p q : Past) (at : ℕ) (bytes : List ℕ) (is : q ≡ with_change p (W
   pub written_holds : Holds (held p).bytes at bytes (held q).bytes
   written_holds = ap (λ h. h.bytes) (held_push p q (Written at bytes) is)
 
+  pub written_dirty : (held q).dirty ≡ (at, length bytes) ∷ (held p).dirty
+  written_dirty = ap (λ h. h.dirty) (held_push p q (Written at bytes) is)
+
   pub written_agrees : at + length bytes ≤ length (held p).bytes → Agrees at (length bytes) (held p).bytes (held q).bytes
   written_agrees le = holds_agrees (held p).bytes at bytes (held q).bytes le written_holds
 
   pub written_crash : at + length bytes ≤ length (held p).bytes → Follows (Agrees at (length bytes)) (Leaves (held p)) (Leaves (held q))
-  written_crash le c left =
-      let ranges : (held q).dirty ≡ (at, length bytes) ∷ (held p).dirty = ap (λ h. h.dirty) (held_push p q (Written at bytes) is) in
-      torn (held p).dirty at (length bytes) (held p).bytes (held q).bytes le (written_agrees le) c (subst (λ rs. AgreesOutside rs (held q).bytes c) ranges left)
+  written_crash le c left = torn (held p).dirty at (length bytes) (held p).bytes (held q).bytes le (written_agrees le) c (subst (λ rs. AgreesOutside rs (held q).bytes c) written_dirty left)
 
   -- the bytes over which these are written are those that are held
   pub written_over : (image over : List ℕ) → image ≡ (held p).bytes → Holds image at bytes over → over ≡ (held q).bytes
@@ -87,8 +88,8 @@ module _ (p q : Past) (at n : ℕ) (is : (q ≡ p) ⊎ (q ≡ with_change p (Fai
   pub failed_same : (held q).bytes ≡ (held p).bytes
   failed_same = same_bytes p q (Failed at n) (λ h. refl) is
 
-  pub failed_agrees : Agrees at n (held p).bytes (held q).bytes
-  failed_agrees = subst (Agrees at n (held p).bytes) (sym failed_same) (agrees_same at n (held p).bytes)
+  pub failed_dirty : ((held q).dirty ≡ (held p).dirty) ⊎ ((held q).dirty ≡ (at, n) ∷ (held p).dirty)
+  failed_dirty = ⊎_elim (λ none. inl (ap (λ r. (held r).dirty) none)) (λ one. inr (ap (λ h. h.dirty) (held_push p q (Failed at n) one))) is
 
   pub failed_crash : at + n ≤ length (held p).bytes → Follows (Agrees at n) (Leaves (held p)) (Leaves (held q))
   failed_crash le c left = ⊎_elim

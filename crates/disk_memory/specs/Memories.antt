@@ -1,8 +1,10 @@
 -- What a disk in memory tells.
 use Rattle.std.specs.Prelude.{◌≡◌, ℕ, List, [], Bool, true, length}
 use Rattle.disk_trait.specs.Bay.{TellsAll}
+use Rattle.disk_trait.specs.Disk.{Elapses}
+use Rattle.disk_trait.specs.Moments.{AgreesOutside}
 use Rattle.disk_memory.specs.declared.memory.Memory.{Memory}
-use Rattle.disk_memory.specs.Past.{held, Leaves, HadBeen}
+use Rattle.disk_memory.specs.Past.{held, HadBeen}
 
 -- it tells its content
 abbrev pub is_told : Memory → Bool
@@ -12,13 +14,17 @@ is_told m = true
 abbrev pub bytes_of : Memory → List ℕ
 bytes_of m = (held m.history).bytes
 
+-- the ranges written since the last sync, each its start and its length
+abbrev pub dirty_of : Memory → List (ℕ × ℕ)
+dirty_of m = (held m.history).dirty
+
 -- how many bytes it has
 abbrev pub extent_of : Memory → ℕ
 extent_of m = length (bytes_of m)
 
 -- a crash now leaves what reads give, but for the ranges written since the last sync
 abbrev pub MayLeave : Memory → List ℕ → Type 0
-MayLeave m image = Leaves (held m.history) image
+MayLeave m image = AgreesOutside (dirty_of m) (bytes_of m) image
 
 -- how many changes there were
 abbrev pub moment_of : Memory → ℕ
@@ -43,6 +49,10 @@ failed_writes m = m.writes
 -- which calls are to fail, each counted from the next one on
 abbrev pub chosen_of : Memory → List ℕ
 chosen_of m = m.plan
+
+-- time goes on from one state of a disk to another
+abbrev pub TimeGoesOn : Memory → Memory → Type 0
+TimeGoesOn old new = Elapses (moment_of old) (moment_of new) (LeftSince old) (LeftSince new) (MayLeave new)
 
 -- reads of a new disk give this image, no crash has ever left anything else, no call has failed and none is to fail
 pub record IsFresh (image : List ℕ) (m : Memory) : Type 0 where

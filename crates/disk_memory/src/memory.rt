@@ -1,7 +1,8 @@
 //! A disk in memory that tells all that it holds.
-ghost use Rattle.std.specs.Prelude.{◌≡◌, ◌+◌, ◌*◌, ◌%◌, ◌++◌, ◌∷◌, ◌≤◌, [], length, IfOk, OnOk, OnErr};
+ghost use Rattle.std.specs.Prelude.{◌≡◌, ◌↔◌, ◌⊎◌, List, ℕ, Contains, IsErr, ◌+◌, ◌*◌, ◌%◌, ◌++◌, ◌∷◌, ◌≤◌, [], length, IfOk, OnOk, OnErr};
 ghost use Rattle.disk_trait.specs.Bay.{blank};
-ghost use Rattle.disk_trait.specs.Disk.{Holds};
+ghost use Rattle.disk_trait.specs.Causes.{HasCause};
+ghost use Rattle.disk_trait.specs.Disk.{Only, Follows, Agrees, Holds, InOnePage, page_of};
 ghost use Rattle.disk_memory.specs.Past.{held};
 
 use crate::history::History;
@@ -97,7 +98,8 @@ fn overwrite(all: &mut [u8], at: usize, bytes: &[u8])
 
 impl Disk for Memory {
     ghost use Rattle.std.specs.Prelude.{length, refl};
-    ghost use Rattle.disk_memory.specs.Memories.{is_told, bytes_of, extent_of, MayLeave, moment_of, LeftSince, failed_reads, failed_writes};
+    ghost use Rattle.disk_memory.specs.Plans.{after_a_call, counted};
+    ghost use Rattle.disk_memory.specs.Memories.{TimeGoesOn, dirty_of, chosen_of, is_told, bytes_of, extent_of, MayLeave, moment_of, LeftSince, failed_reads, failed_writes};
     ghost use Rattle.disk_memory.specs.PastLaws.{leaves_itself, had_been_now, only_last};
 
     ghost honest = { is_told };
@@ -133,7 +135,24 @@ impl Disk for Memory {
         page: u64,
         out: &mut [u8; 4096],
         steps: &mut Steps<L>,
-    ) -> Result<(), DiskFailed> {
+    ) -> Result<(), DiskFailed>
+        requires { page * 4096 + 4096 ≤ extent_of self.old }
+        ensures ticks { steps.new ≡ steps.old + 1 }
+        ensures bytes { OnOk result (out.new ≡ page_of page (bytes_of self.old)) }
+        ensures seen { bytes_of self.new ≡ bytes_of self.old }
+        ensures crash { (c : List ℕ) → MayLeave self.new c ↔ MayLeave self.old c }
+        ensures time { TimeGoesOn self.old self.new }
+        ensures extent { extent_of self.new ≡ extent_of self.old }
+        ensures cause { HasCause (failed_reads self.old) (failed_reads self.new) result }
+        ensures other { failed_writes self.old ≤ failed_writes self.new }
+
+        // Only a read that was chosen fails.
+        ensures fails { IsErr result ↔ Contains (chosen_of self.old) 1 }
+        ensures counted { failed_reads self.new ≡ counted result (failed_reads self.old) }
+        ensures writes { failed_writes self.new ≡ failed_writes self.old }
+        ensures nearer { chosen_of self.new ≡ after_a_call (chosen_of self.old) }
+        ensures dirty { dirty_of self.new ≡ dirty_of self.old }
+    {
         steps.tick();
         if self.plan.is_next_chosen() {
             self.reads = self.reads.saturating_add(1);
@@ -144,7 +163,25 @@ impl Disk for Memory {
         Ok(())
     }
 
-    fn write(&mut self, at: u64, bytes: &[u8]) -> Result<(), DiskFailed> {
+    fn write(&mut self, at: u64, bytes: &[u8]) -> Result<(), DiskFailed>
+        requires { InOnePage at (length bytes.now) (extent_of self.old) }
+        ensures written { OnOk result (Holds (bytes_of self.old) at bytes.now (bytes_of self.new)) }
+        ensures outside { Agrees at (length bytes.now) (bytes_of self.old) (bytes_of self.new) }
+        ensures crash { Follows (Agrees at (length bytes.now)) (MayLeave self.old) (MayLeave self.new) }
+        ensures time { TimeGoesOn self.old self.new }
+        ensures extent { extent_of self.new ≡ extent_of self.old }
+        ensures cause { HasCause (failed_writes self.old) (failed_writes self.new) result }
+        ensures other { failed_reads self.old ≤ failed_reads self.new }
+
+        // A write that was chosen fails, and any other only for want of memory.
+        ensures fails { Contains (chosen_of self.old) 1 → IsErr result }
+        ensures unwritten { OnErr result (bytes_of self.new ≡ bytes_of self.old) }
+        ensures counted { failed_writes self.new ≡ counted result (failed_writes self.old) }
+        ensures reads { failed_reads self.new ≡ failed_reads self.old }
+        ensures nearer { chosen_of self.new ≡ after_a_call (chosen_of self.old) }
+        ensures dirty { OnOk result (dirty_of self.new ≡ (at, length bytes.now) ∷ dirty_of self.old) }
+        ensures failed_dirty { OnErr result ((dirty_of self.new ≡ dirty_of self.old) ⊎ (dirty_of self.new ≡ (at, length bytes.now) ∷ dirty_of self.old)) }
+    {
         let at = at as usize;
         if self.plan.is_next_chosen() {
             self.writes = self.writes.saturating_add(1);
@@ -163,7 +200,24 @@ impl Disk for Memory {
         }
     }
 
-    fn sync(&mut self) -> Result<(), DiskFailed> {
+    fn sync(&mut self) -> Result<(), DiskFailed>
+        ensures durable { OnOk result (Only (bytes_of self.old) (MayLeave self.new)) }
+        ensures seen { bytes_of self.new ≡ bytes_of self.old }
+        ensures crash { (c : List ℕ) → MayLeave self.new c → MayLeave self.old c }
+        ensures stays { OnErr result ((c : List ℕ) → MayLeave self.old c → MayLeave self.new c) }
+        ensures time { TimeGoesOn self.old self.new }
+        ensures extent { extent_of self.new ≡ extent_of self.old }
+        ensures cause { HasCause (failed_writes self.old) (failed_writes self.new) result }
+        ensures other { failed_reads self.old ≤ failed_reads self.new }
+
+        // Only a sync that was chosen fails: none wants memory.
+        ensures fails { IsErr result ↔ Contains (chosen_of self.old) 1 }
+        ensures counted { failed_writes self.new ≡ counted result (failed_writes self.old) }
+        ensures reads { failed_reads self.new ≡ failed_reads self.old }
+        ensures nearer { chosen_of self.new ≡ after_a_call (chosen_of self.old) }
+        ensures clean { OnOk result (dirty_of self.new ≡ []) }
+        ensures failed_dirty { OnErr result (dirty_of self.new ≡ dirty_of self.old) }
+    {
         if self.plan.is_next_chosen() {
             self.writes = self.writes.saturating_add(1);
             return Err(DiskFailed);

@@ -1,5 +1,6 @@
 //! A sink in memory.
-ghost use Rattle.std.specs.Prelude.{◌≡◌, ◌++◌, ◌∷◌, [], true, OnOk, OnErr};
+ghost use Rattle.std.specs.Prelude.{◌≡◌, ◌++◌, ◌∷◌, ◌<◌, ◌≤◌, [], true, length, take, Contains, IsErr, IfOk, OnOk, OnErr};
+ghost use Rattle.disk_trait.specs.Causes.{HasCause};
 
 use crate::piece::piece_of;
 use crate::plan::Plan;
@@ -63,7 +64,9 @@ impl ByteSink {
 }
 
 impl Sink for ByteSink {
-    ghost use Rattle.disk_memory.specs.Streams.{received_by, failed_puts};
+    ghost use Rattle.disk_memory.specs.Plans.{after_a_call, counted};
+    ghost use Rattle.disk_memory.specs.Pieces.{piece_of};
+    ghost use Rattle.disk_memory.specs.Streams.{received_by, failed_puts, chosen_puts, put_limit};
 
     ghost tells = { λ s. true };
 
@@ -71,7 +74,20 @@ impl Sink for ByteSink {
 
     ghost fault_count = { failed_puts };
 
-    fn put(&mut self, bytes: &[u8]) -> Result<usize, SinkFailed> {
+    fn put(&mut self, bytes: &[u8]) -> Result<usize, SinkFailed>
+        ensures bound { IfOk result (λ n. n ≤ length bytes.now) }
+        ensures some { IfOk result (λ n. 0 < length bytes.now → 0 < n) }
+        ensures added { IfOk result (λ n. received_by self.new ≡ received_by self.old ++ take n bytes.now) }
+        ensures refused { OnErr result (received_by self.new ≡ received_by self.old) }
+        ensures cause { HasCause (failed_puts self.old) (failed_puts self.new) result }
+
+        // A put that was chosen fails, any other only for want of memory, and a limit is kept.
+        ensures fails { Contains (chosen_puts self.old) 1 → IsErr result }
+        ensures counted { failed_puts self.new ≡ counted result (failed_puts self.old) }
+        ensures nearer { chosen_puts self.new ≡ after_a_call (chosen_puts self.old) }
+        ensures piece { IfOk result (λ n. n ≡ piece_of (put_limit self.old) (length bytes.now)) }
+        ensures limit { put_limit self.new ≡ put_limit self.old }
+    {
         let count = piece_of(self.limit, bytes.len());
         if self.plan.is_next_chosen() || self.bytes.extend_from_slice(&bytes[..count]).is_err() {
             self.failures = self.failures.saturating_add(1);

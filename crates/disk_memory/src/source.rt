@@ -1,5 +1,7 @@
 //! A source in memory.
-ghost use Rattle.std.specs.Prelude.{◌≡◌, ◌++◌, ◌∷◌, ◌≤◌, [], true, length, OnOk, OnErr};
+ghost use Rattle.std.specs.Prelude.{◌≡◌, ◌↔◌, ◌++◌, ◌∷◌, ◌<◌, ◌≤◌, [], true, length, min, Contains, IsErr, IfOk, OnOk, OnErr};
+ghost use Rattle.disk_trait.specs.Causes.{HasCause};
+ghost use Rattle.disk_trait.specs.Streams.{Takes};
 
 use crate::piece::piece_of;
 use crate::plan::Plan;
@@ -60,7 +62,9 @@ impl ByteSource {
 }
 
 impl Source for ByteSource {
-    ghost use Rattle.disk_memory.specs.Streams.{left_in, failed_takes};
+    ghost use Rattle.disk_memory.specs.Plans.{after_a_call, counted};
+    ghost use Rattle.disk_memory.specs.Pieces.{piece_of};
+    ghost use Rattle.disk_memory.specs.Streams.{left_in, failed_takes, chosen_takes, take_limit};
 
     ghost tells = { λ s. true };
 
@@ -68,7 +72,20 @@ impl Source for ByteSource {
 
     ghost fault_count = { failed_takes };
 
-    fn take(&mut self, out: &mut [u8]) -> Result<usize, SourceFailed> {
+    fn take(&mut self, out: &mut [u8]) -> Result<usize, SourceFailed>
+        ensures bound { IfOk result (λ n. n ≤ length out.old) }
+        ensures taken { IfOk result (Takes (left_in self.old) (left_in self.new) out.new) }
+        ensures end { IfOk result (λ n. n ≡ 0 → 0 < length out.old → left_in self.old ≡ []) }
+        ensures refused { OnErr result (left_in self.new ≡ left_in self.old) }
+        ensures cause { HasCause (failed_takes self.old) (failed_takes self.new) result }
+
+        // Only a take that was chosen fails, and a limit is kept.
+        ensures fails { IsErr result ↔ Contains (chosen_takes self.old) 1 }
+        ensures counted { failed_takes self.new ≡ counted result (failed_takes self.old) }
+        ensures nearer { chosen_takes self.new ≡ after_a_call (chosen_takes self.old) }
+        ensures piece { IfOk result (λ n. n ≡ piece_of (take_limit self.old) (min (length out.old) (length (left_in self.old)))) }
+        ensures limit { take_limit self.new ≡ take_limit self.old }
+    {
         if self.plan.is_next_chosen() {
             self.failures = self.failures.saturating_add(1);
             return Err(SourceFailed);
