@@ -1,0 +1,3 @@
+pub mod Ranges
+pub mod Changes
+pub mod Places

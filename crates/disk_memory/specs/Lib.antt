@@ -1,0 +1,9 @@
+pub mod Plans
+pub mod Pieces
+pub mod Past
+pub mod PastLaws
+pub mod Events
+pub mod Histories
+pub mod Memories
+pub mod Bays
+pub mod Streams

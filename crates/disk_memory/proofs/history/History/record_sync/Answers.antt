@@ -1,0 +1,15 @@
+use Rattle.std.proofs.Common.{ap, ◌∙◌, refl, map}
+use Rattle.disk_memory.specs.declared.history.Event.TheVariants.{Sync}
+use Rattle.disk_memory.specs.Events.{change_of}
+use Rattle.disk_memory.specs.Histories.{past_of}
+use Rattle.disk_memory.proofs.Changes.{changes_push, synced_clean}
+use Rattle.disk_memory.proofs.history.History.record_sync.Goals as goal
+
+pub invariant_of-self : goal.invariant_of-self
+invariant_of-self c = record {
+  clean = λ h. synced_clean (past_of c.self.inside) _ (ap (λ es. record { first = c.self.inside.first.items; changes = es }) (ap (map change_of) c.in-Ok.ensures.items ∙ changes_push c.self.inside.events.items Sync));
+  room = λ h. cc;
+}
+
+pub returns-clause-clean : goal.returns-clause-clean
+returns-clause-clean c = (invariant_of-self c).clean refl

@@ -1,0 +1,7 @@
+use Rattle.std.proofs.Common.{◌∙◌, ap}
+use Rattle.disk_trait.specs.Disk.{page_of}
+use Rattle.disk_memory.proofs.Ranges.{page_slice}
+use Rattle.disk_memory.proofs.memory.MemoryDisk.read.Goals as goal
+
+pub returns-clause-bytes : goal.returns-clause-bytes
+returns-clause-bytes g c = c.copy_from_slice.ensures.after ∙ page_slice c.deref.result.now c.args.page ∙ ap (page_of c.args.page) (c.deref.ensures.value ∙ c.args.self.now.kept)

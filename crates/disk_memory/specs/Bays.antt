@@ -1,0 +1,41 @@
+-- What a bay in memory has under its names.
+use Rattle.std.specs.Prelude.{◌≡◌, ◌≢◌, ℕ, List, [], ◌∷◌, Option, Some, None, Bool, if◌then◌else◌, string_bytes}
+use Rattle.std.specs.Str.{bytes_eq}
+use Rattle.disk_trait.specs.Bay.{Place, Absent, Out, Home}
+use Rattle.disk_memory.specs.declared.memory.Memory.{Memory}
+use Rattle.disk_memory.specs.declared.bay.Entry.{Entry}
+use Rattle.disk_memory.specs.declared.bay.MemoryBay.{MemoryBay}
+
+-- whether an entry has this name
+abbrev pub is_named : List ℕ → Entry → Bool
+is_named name e = bytes_eq (string_bytes e.name) name
+
+-- an entry without its disk is that of a disk that is out
+abbrev pub place_of_disk : Option Memory → Place Memory
+place_of_disk None = Out
+place_of_disk (Some d) = Home d
+
+-- of several entries with a name the first counts
+abbrev pub place_in : List Entry → List ℕ → Place Memory
+place_in [] name = Absent
+place_in (e ∷ es) name = (if is_named name e then place_of_disk e.disk else place_in es name)
+
+-- what a bay has under a name
+abbrev pub place_of : MemoryBay → List ℕ → Place Memory
+place_of b name = place_in b.entries.items name
+
+-- how often a bay has failed
+abbrev pub failures_of : MemoryBay → ℕ
+failures_of b = b.failures
+
+-- which calls of a bay are to fail
+abbrev pub chosen_of : MemoryBay → List ℕ
+chosen_of b = b.plan
+
+-- nothing under any name changed
+abbrev pub SamePlaces : MemoryBay → MemoryBay → Type 0
+SamePlaces old new = (name : List ℕ) → place_of new name ≡ place_of old name
+
+-- nothing lies under a name
+abbrev pub HasNoDisk : Place Memory → Type 0
+HasNoDisk place = (d : Memory) → place ≢ Home d

@@ -1,0 +1,14 @@
+-- What the fields of a disk's history stand for.
+use Rattle.std.specs.Prelude.{◌≡◌, ◌<◌, Bool, true, false, List, [], map, vec_len, vec_capacity}
+use Rattle.disk_memory.specs.declared.history.History.TheInside.{Inside}
+use Rattle.disk_memory.specs.Events.{change_of}
+use Rattle.disk_memory.specs.Past.{Past, held}
+
+-- the past that is recorded
+abbrev pub past_of : Inside → Past
+past_of h = record { first = h.first.items; changes = map change_of h.events.items }
+
+-- what is not on the disk leaves room for one event more
+pub record HasRoom (h : Inside) : Type 0 where
+  pub clean : h.is_clean ≡ true → (held (past_of h)).dirty ≡ []
+  pub room : h.is_clean ≡ false → vec_len h.events < vec_capacity h.events

@@ -1,0 +1,17 @@
+//! The outside in memory: a disk, a bay of disks, a source and a sink, which tell all that they hold.
+//!
+//! Calls of each may be chosen to fail, so that what stands on the traits of the outside is tried at each fault.
+#![tactic(auto)]
+
+mod bay;
+mod history;
+mod memory;
+mod piece;
+mod plan;
+mod sink;
+mod source;
+
+pub use bay::MemoryBay;
+pub use memory::Memory;
+pub use sink::ByteSink;
+pub use source::ByteSource;
