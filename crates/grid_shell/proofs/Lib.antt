@@ -1,4 +1,7 @@
+pub mod Buckets
+pub mod Errors
 pub mod Lines
 pub mod Pairs
 pub mod Pieces
+pub mod Taking
 pub mod Worst

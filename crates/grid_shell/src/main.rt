@@ -4,6 +4,7 @@
 mod command;
 mod ending;
 mod input;
+mod lone;
 mod printing;
 
 fn main() {}

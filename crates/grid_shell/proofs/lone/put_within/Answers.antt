@@ -1,0 +1,15 @@
+use Rattle.std.proofs.Common.{◌∙◌, ◌≡◌, true, sym, arith}
+use Rattle.std.proofs.lemmas.List.{length-map}
+use Rattle.grid_model.specs.Tables.{entry, entries_of}
+use Rattle.grid_model.specs.OneBucket.{takes}
+use Rattle.grid_shell.proofs.Taking.{count_within}
+use Rattle.grid_shell.proofs.lone.put_within.Goals as goal
+
+pub returns-clause-count : goal.returns-clause-count
+returns-clause-count g c =
+    let rows = c.args.bucket.now.rows.items in
+    let taken : takes c.args.capacity (entries_of rows) c.args.row.now.key.at ≡ true = sym c.has_place.ensures ∙ c.if-not-has_place.false in
+    count_within c.args.capacity (entries_of rows) c.args.row.now.key.at c.with.result _ _ taken c.with.ensures.old (length-map rows entry) c.requires.bucket.count c.with.ensures.len
+
+pub returns-clause-bucket : goal.returns-clause-bucket
+returns-clause-bucket g c = λ within. c.with.ensures.lawful c.args.capacity c.requires.bucket (returns-clause-count g c) within
