@@ -6,5 +6,6 @@ mod ending;
 mod input;
 mod lone;
 mod printing;
+mod session;
 
 fn main() {}
