@@ -1,24 +1,20 @@
 -- The lines of a text, and what they ask.
 use Rattle.std.proofs.Common.{◌≡◌, ◌<◌, ◌≤◌, ◌+◌, ◌-◌, ℕ, zero, suc, eqb, List, [], ◌∷◌, ◌++◌, length, take, drop, get_or, refl, sym, ap, subst, ◌∙◌, arith}
-use Rattle.std.specs.Prelude.{Bool, true, false, if◌then◌else◌, ◌==◌}
+use Rattle.std.specs.Prelude.{false}
 use Rattle.std.proofs.lemmas.List.{drop_more, drop_all, take_more, take_all, length-drop}
 use Rattle.std.proofs.lemmas.Bool.Decides.{nat_tests}
 use Rattle.grid_types.specs.declared.request.Request.{Request}
 use Rattle.grid_model.specs.Script.{lines_of, onto_first, Asks, AskAll}
 use Rattle.grid_script.specs.Fields.{Without}
-use Rattle.grid_script.proofs.Partings.{without-head, without-tail}
+use Rattle.grid_script.proofs.Partings.{same_head, same_tail, without-head, without-tail}
 
 not_ended : (b : ℕ) → (b ≡ 10 → ⊥) → eqb b 10 ≡ false
 not_ended b differ = grind (arith, nat_tests)
 
-choose_else : {A : Type 0} (test : Bool) (a b : A) → test ≡ false → (if test then a else b) ≡ b
-choose_else true a b e = absurd (subst (λ (t : Bool). elim t as (λ _. Type 0) [ true ↦ Unit {0} | false ↦ ⊥ ]) e tt)
-choose_else false a b e = refl
-
 -- a byte that ends no line goes onto the first line
 onto : (b : ℕ) (bs : List ℕ) → (b ≡ 10 → ⊥) → lines_of (b ∷ bs) ≡ onto_first b (lines_of bs)
 unfolding lines_of
-onto b bs differ = choose_else (b == 10) ([] ∷ lines_of bs) (onto_first b (lines_of bs)) (not_ended b differ)
+onto b bs differ = rw (not_ended b differ) refl
 
 pub lines_of-ended : (line rest : List ℕ) → Without 10 line → lines_of (line ++ 10 ∷ rest) ≡ line ∷ lines_of rest
 unfolding lines_of
@@ -46,12 +42,6 @@ AskAll-each [] requests i all lt none = omega (arith, lt)
 AskAll-each (line ∷ lines) [] i all lt none = all
 AskAll-each (line ∷ lines) (r ∷ requests) zero all lt none = none r all.0
 AskAll-each (line ∷ lines) (r ∷ requests) (suc i) all lt none = AskAll-each lines requests i all.1 (omega (arith, lt)) none
-
-same_head : {A : Type 0} (x y : A) (xs ys : List A) → x ∷ xs ≡ y ∷ ys → x ≡ y
-same_head x y xs ys e = cc
-
-same_tail : {A : Type 0} (x y : A) (xs ys : List A) → x ∷ xs ≡ y ∷ ys → xs ≡ ys
-same_tail x y xs ys e = cc
 
 -- line i of a text, and what is then behind and in front
 pub record IsLineAt (lines : List (List ℕ)) (i : ℕ) (line : List ℕ) (later : List (List ℕ)) : Type 0 where

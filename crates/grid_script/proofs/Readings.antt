@@ -11,7 +11,8 @@ use Rattle.grid_script.proofs.Partings.{one_split}
 use Rattle.grid_script.proofs.KeyTexts.{key_without, key_text-injective}
 use Rattle.grid_script.proofs.LinesOf.{AskAll-each}
 
-ok_or_err : {A E : Type 0} (r : Result A E) (x : A) (e : E) → r ≡ Ok x → r ≡ Err e → ⊥
+-- a result is not both
+pub ok_or_err : {A E : Type 0} (r : Result A E) (x : A) (e : E) → r ≡ Ok x → r ≡ Err e → ⊥
 ok_or_err r x e is not = cc
 
 -- a dash is no hexadecimal text
@@ -27,9 +28,11 @@ one_data field a b (inr p) (inr q) = decode_of-same field a b p.value q.value
 one_key : (K : ℕ) (k m : List ℕ) → IsKey K k → IsKey K m → key_text k ≡ key_text m → k ≡ m
 one_key K k m p q e = key_text-injective k m (p.count ∙ sym q.count) p.in_range q.in_range e
 
-behind_put : (line xs ys : List ℕ) → line ≡ codes "put " ++ xs → line ≡ codes "put " ++ ys → xs ≡ ys
+-- what stands behind the word of a put
+pub behind_put : (line xs ys : List ℕ) → line ≡ codes "put " ++ xs → line ≡ codes "put " ++ ys → xs ≡ ys
 behind_put line xs ys p q = cc
 
+-- what stands behind the word of a get
 behind_get : (line xs ys : List ℕ) → line ≡ codes "get " ++ xs → line ≡ codes "get " ++ ys → xs ≡ ys
 behind_get line xs ys p q = cc
 

@@ -11,4 +11,4 @@ mod tests;
 mod text;
 
 pub use script::{Script, ScriptFault, read_script, script_law};
-pub use text::{Text, print_client, print_front, print_reply};
+pub use text::{LINE, Text, print_client, print_front, print_reply};

@@ -10,6 +10,9 @@ use itoa::Buffer;
 /// Where text is gathered before it is written.
 pub type Text = ArrayVec<u8, 4096>;
 
+/// As many bytes as are enough for any line.
+pub const LINE: usize = 128;
+
 fn print_bytes(bytes: &[u8], out: &mut Text)
     requires { array_vec_len out.old + length bytes.now ≤ 4096 }
     ensures items { out.new.items ≡ out.old.items ++ bytes.now }
@@ -149,7 +152,7 @@ fn print_answer(reply: &Reply, out: &mut Text)
     }
 }
 
-/// Adds the line of a reply. 128 bytes are enough for any.
+/// Adds the line of a reply. `LINE` bytes are enough for any.
 #[tactic(auto, unfolding(grid_model::specs::Text::reply_line))]
 pub fn print_reply(reply: &Reply, out: &mut Text)
     requires room { array_vec_len out.old + 128 ≤ 4096 }

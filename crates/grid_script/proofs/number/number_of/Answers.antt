@@ -1,15 +1,13 @@
 use Rattle.std.proofs.Common.{◌≡◌, ◌∙◌, ℕ, sym, ap, subst}
-use Rattle.std.specs.Prelude.{decimal, Result, Ok, Err}
+use Rattle.std.specs.Prelude.{decimal, Result, Ok}
 use Rattle.std.specs.Str.{IsUtf8}
 use Rattle.std.proofs.lemmas.Str.{IsUtf8-from_ascii}
 use Rattle.std.proofs.lemmas.Fmt.{parse-decimal, IsAscii-decimal}
 use Rattle.std.proofs.lemmas.Bool.{false≢true}
 use Rattle.std.proofs.lemmas.Bool.Decides.{Decides-eqb}
 use Rattle.std.proofs.lemmas.Slice.Eq.{slice_eq-Decides}
+use Rattle.grid_script.proofs.Readings.{ok_or_err}
 use Rattle.grid_script.proofs.number.number_of.Goals as goal
-
-ok_not_err : {E : Type 0} (r : Result ℕ E) (n : ℕ) (f : E) → r ≡ Ok n → r ≡ Err f → ⊥
-ok_not_err r n f a b = cc
 
 same_ok : {E : Type 0} (r : Result ℕ E) (m n : ℕ) → r ≡ Ok m → r ≡ Ok n → m ≡ n
 same_ok r m n a b = cc
@@ -20,7 +18,7 @@ returns-in_default-clause-none c = λ n lt e. c.in_default.ensures.cases.0 (subs
 pub returns-in_default-parse-clause-none : goal.returns-in_default-parse-clause-none
 returns-in_default-parse-clause-none c = λ n lt e.
     let ok = parse-decimal 64 n c.in-Ok.digits.now c.parse.result lt lt (c.in-Ok.ensures.cases.0 ∙ e) c.parse.ensures.value.0 in
-    ok_not_err c.parse.result n _ ok c.in_default-parse.is
+    ok_or_err c.parse.result n _ ok c.in_default-parse.is
 
 pub returns-else-eq-clause-none : goal.returns-else-eq-clause-none
 returns-else-eq-clause-none c = λ n lt e.
