@@ -4,5 +4,6 @@ pub mod Lines
 pub mod Pairs
 pub mod Pieces
 pub mod Replies
+pub mod Sequences
 pub mod Taking
 pub mod Worst

@@ -1,0 +1,44 @@
+use Rattle.std.proofs.Common.{◌≡◌, ◌<◌, ◌≤◌, ◌∙◌, sym, ap, subst, take, length, get_or, arith, List}
+use Rattle.std.proofs.lemmas.List.{take_all}
+use Rattle.grid_types.specs.declared.request.Request.{Request}
+use Rattle.grid_model.specs.OneBucket.{Lone, answer, after, answers, afterwards}
+use Rattle.grid_shell.specs.declared.lone.TheConstants.{WORN}
+use Rattle.grid_shell.specs.Standing.{StandsAt}
+use Rattle.grid_shell.proofs.Sequences.{no_answers, at_first, answers_more, afterwards_more, front_below, fault_since}
+use Rattle.grid_shell.proofs.session.answer_all.Goals as goal
+
+pub loop-request-init : goal.loop-request-init
+loop-request-init g c = record {
+  len = ap length c.requires.none;
+  room = omega arith;
+  reads = omega arith;
+  writes = omega arith;
+  honest = λ i. g.D.Disk.honest c.args.lone.now.disk;
+  capacity = λ i. c.args.lone.now.capacity;
+  told = λ h s at le. c.requires.none ∙ sym (no_answers c.args.lone.now.capacity s c.args.requests.now);
+  stands = λ h s at le. subst (StandsAt g.row.K c.args.lone.now.capacity (g.D.Disk.seen c.args.lone.now.disk) c.args.lone.now.front) (sym (at_first c.args.lone.now.capacity s c.args.requests.now)) at;
+}
+
+pub returns-in-Err-clause-fault : goal.returns-in-Err-clause-fault
+returns-in-Err-clause-fault g c = fault_since c.in-Err.refusal _ _ _ _ _ _ c.loop-request.invariant.reads c.loop-request.invariant.writes c.in-Err.ensures.fault
+
+pub loop-request-preserved : goal.loop-request-preserved
+loop-request-preserved g c =
+    let inv = c.loop-request.invariant in
+    let C = c.args.lone.now.capacity in
+    let rs = c.args.requests.now in
+    let i = c.loop-request.request-index in
+    let lt : i < length rs = omega arith in
+    record {
+      len = omega (arith, c.in-Ok-push.ensures.len, inv.len);
+      room = omega (arith, c.in-Ok-push.ensures.capacity, inv.room);
+      reads = omega (arith, c.in-Ok.ensures.reads, inv.reads);
+      writes = omega (arith, c.in-Ok.ensures.writes, inv.writes);
+      honest = c.in-Ok.ensures.honest ∙ inv.honest;
+      capacity = c.in-Ok.ensures.capacity ∙ inv.capacity;
+      told = λ h s at le.
+          let here = inv.stands h s at le in
+          let reply : c.in-Ok.reply ≡ answer C (afterwards C s (take i rs)) (get_or rs i c.request-item.result) = reply-here g c h s at le in
+          answers_more C s rs i c.request-item.result _ _ c.in-Ok.reply lt (inv.told h s at le) reply c.in-Ok-push.ensures.items;
+      stands = ?;
+    }
