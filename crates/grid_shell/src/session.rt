@@ -1,5 +1,5 @@
 //! The lines of a script, answered one after the other.
-ghost use Rattle.std.specs.Prelude.{◌≡◌, ◌≢◌, ◌≤◌, ◌<◌, ◌+◌, ◌⊎◌, [], List, ℕ, IsTrue, IfOk, IfErr, OnOk, length, vec_capacity};
+ghost use Rattle.std.specs.Prelude.{◌≡◌, ◌≢◌, ◌≤◌, ◌<◌, ◌+◌, ◌⊎◌, [], List, ℕ, IsTrue, IfOk, IfErr, OnOk, length, vec_len, vec_capacity};
 ghost use Rattle.grid_model.specs.OneBucket.{Lone as LoneState, answer, answers, after, afterwards};
 ghost use Rattle.grid_types.specs.declared.refusal.Refusal.TheVariants.{ReadFault, WriteFault};
 ghost use Rattle.grid_types.specs.declared.request.Request.TheVariants as ask;
@@ -91,7 +91,8 @@ pub fn answer_all<const K: usize, D: Disk, L: Ledger>(
     replies: &mut Vec<Reply>,
     steps: &mut Steps<L>,
 ) -> Result<(), Refusal>
-    requires none { replies.old.items ≡ [] }
+    requires empty { replies.old.items ≡ [] }
+    requires none { vec_len replies.old ≡ 0 }
     requires room { length requests.now ≤ vec_capacity replies.old }
     ensures one_each { OnOk result (length replies.new.items ≡ length requests.now) }
     ensures told { IsTrue (D.honest lone.old.disk) → (s : LoneState) → StandsAt K lone.old.capacity (D.seen lone.old.disk) lone.old.front s → lone.old.front + length requests.now ≤ WORN → OnOk result (replies.new.items ≡ answers lone.old.capacity s requests.now) }

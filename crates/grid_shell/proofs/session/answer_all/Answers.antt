@@ -9,13 +9,13 @@ use Rattle.grid_shell.proofs.session.answer_all.Goals as goal
 
 pub loop-request-init : goal.loop-request-init
 loop-request-init g c = record {
-  len = ap length c.requires.none;
+  len = c.requires.none;
   room = omega arith;
   reads = omega arith;
   writes = omega arith;
   honest = λ i. g.D.Disk.honest c.args.lone.now.disk;
   capacity = λ i. c.args.lone.now.capacity;
-  told = λ h s at le. c.requires.none ∙ sym (no_answers c.args.lone.now.capacity s c.args.requests.now);
+  told = λ h s at le. c.requires.empty ∙ sym (no_answers c.args.lone.now.capacity s c.args.requests.now);
   stands = λ h s at le. subst (StandsAt g.row.K c.args.lone.now.capacity (g.D.Disk.seen c.args.lone.now.disk) c.args.lone.now.front) (sym (at_first c.args.lone.now.capacity s c.args.requests.now)) at;
 }
 
@@ -29,6 +29,7 @@ loop-request-preserved g c =
     let rs = c.args.requests.now in
     let i = c.loop-request.request-index in
     let lt : i < length rs = omega arith in
+    let item = c.request-item.result in
     record {
       len = omega (arith, c.in-Ok-push.ensures.len, inv.len);
       room = omega (arith, c.in-Ok-push.ensures.capacity, inv.room);
@@ -38,7 +39,24 @@ loop-request-preserved g c =
       capacity = c.in-Ok.ensures.capacity ∙ inv.capacity;
       told = λ h s at le.
           let here = inv.stands h s at le in
-          let reply : c.in-Ok.reply ≡ answer C (afterwards C s (take i rs)) (get_or rs i c.request-item.result) = reply-here g c h s at le in
-          answers_more C s rs i c.request-item.result _ _ c.in-Ok.reply lt (inv.told h s at le) reply c.in-Ok-push.ensures.items;
-      stands = ?;
+          let there = subst (λ n. StandsAt g.row.K n (g.D.Disk.seen c.loop-request.lone.disk) c.loop-request.lone.front (afterwards C s (take i rs))) (sym inv.capacity) here in
+          let step = c.in-Ok.ensures.told (inv.honest ∙ h) (afterwards C s (take i rs)) there (front_below C s rs i c.args.lone.now.front c.loop-request.lone.front WORN lt at.updates here.updates le) in
+          answers_more C s rs i item _ _ c.in-Ok.reply lt (inv.told h s at le) (step ∙ ap (λ n. answer n (afterwards C s (take i rs)) item) inv.capacity ∙ ap (answer C (afterwards C s (take i rs))) c.request-item.is) c.in-Ok-push.ensures.items;
+      stands = λ h s at le.
+          let here = inv.stands h s at le in
+          let there = subst (λ n. StandsAt g.row.K n (g.D.Disk.seen c.loop-request.lone.disk) c.loop-request.lone.front (afterwards C s (take i rs))) (sym inv.capacity) here in
+          let step = c.in-Ok.ensures.stands (inv.honest ∙ h) (afterwards C s (take i rs)) there (front_below C s rs i c.args.lone.now.front c.loop-request.lone.front WORN lt at.updates here.updates le) in
+          subst (StandsAt g.row.K C (g.D.Disk.seen c.reply_to.new.lone.disk) c.reply_to.new.lone.front)
+          (ap (after C (afterwards C s (take i rs))) c.request-item.is ∙ afterwards_more C s rs i item lt)
+          (subst (λ n. StandsAt g.row.K n (g.D.Disk.seen c.reply_to.new.lone.disk) c.reply_to.new.lone.front (after n (afterwards C s (take i rs)) item)) inv.capacity step);
     }
+
+pub returns-clause-told : goal.returns-clause-told
+returns-clause-told g c = λ h s at le.
+    let all : take c.loop-request.request-index c.args.requests.now ≡ c.args.requests.now = take_all _ _ (omega (arith, c.loop-request-test.false)) in
+    c.loop-request.invariant.told h s at le ∙ ap (answers c.args.lone.now.capacity s) all
+
+pub returns-clause-stands : goal.returns-clause-stands
+returns-clause-stands g c = λ h s at le.
+    let all : take c.loop-request.request-index c.args.requests.now ≡ c.args.requests.now = take_all _ _ (omega (arith, c.loop-request-test.false)) in
+    subst (λ qs. StandsAt g.row.K c.args.lone.now.capacity (g.D.Disk.seen c.loop-request.lone.disk) c.loop-request.lone.front (afterwards c.args.lone.now.capacity s qs)) all (c.loop-request.invariant.stands h s at le)
