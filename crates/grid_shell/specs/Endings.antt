@@ -1,5 +1,5 @@
 -- How a run ends, as a status and a text.
-use Rattle.std.specs.Prelude.{ℕ, ◌++◌, List, [], ◌∷◌, codes, decimal, max}
+use Rattle.std.specs.Prelude.{ℕ, ◌++◌, List, [], ◌∷◌, codes, decimal, max, ⊤}
 use Rattle.grid_types.specs.declared.refusal.Refusal.{Refusal}
 use Rattle.grid_types.specs.declared.refusal.Refusal.TheVariants as refusal
 use Rattle.grid_types.specs.declared.request.Reply.{Reply}
@@ -37,11 +37,31 @@ error_text Device = codes "grid: device\n"
 error_text Memory = codes "grid: memory\n"
 error_text Refused = []
 
--- the end that a refused line makes
+-- an end that the lines of a script may make
+abbrev pub IsLineEnd : Ending → Type 0
+IsLineEnd Done = ⊤
+IsLineEnd BadWords = ⊥
+IsLineEnd (BadScript line) = ⊥
+IsLineEnd Damaged = ⊤
+IsLineEnd Device = ⊥
+IsLineEnd Memory = ⊤
+IsLineEnd Refused = ⊤
+
+-- an end of a run whose script has no fault
+abbrev pub HasBegun : Ending → Type 0
+HasBegun Done = ⊤
+HasBegun BadWords = ⊥
+HasBegun (BadScript line) = ⊥
+HasBegun Damaged = ⊤
+HasBegun Device = ⊤
+HasBegun Memory = ⊤
+HasBegun Refused = ⊤
+
+-- the end that a refused line makes; of a fault of the disk it is the count that tells
 abbrev pub refusal_end : Refusal → Ending
 refusal_end refusal.NoMemory = Memory
-refusal_end refusal.ReadFault = Device
-refusal_end refusal.WriteFault = Device
+refusal_end refusal.ReadFault = Done
+refusal_end refusal.WriteFault = Done
 refusal_end (refusal.Unsure faults before) = Refused
 refusal_end (refusal.Stopped faults opened) = Refused
 refusal_end (refusal.Full free need) = Refused

@@ -1,5 +1,5 @@
 -- What a run over one bucket prints and leaves.
-use Rattle.std.specs.Prelude.{◌≡◌, ◌⊎◌, ◌++◌, ℕ, List}
+use Rattle.std.specs.Prelude.{◌≡◌, ◌⊎◌, ◌++◌, ◌∷◌, [], ℕ, List}
 use Rattle.grid_types.specs.declared.request.Request.{Request}
 use Rattle.grid_model.specs.Tables.{Table}
 use Rattle.grid_model.specs.OneBucket.{empty, answers, afterwards}
@@ -16,12 +16,13 @@ printed capacity requests = text (answers capacity empty requests) (afterwards c
 unfoldable pub left_by : {K : ℕ} → ℕ → List (Request K) → Table
 left_by capacity requests = (afterwards capacity empty requests).table
 
--- a script was answered: the lone caller's text was added to what the sink had, the image stands for the table that the script leaves, and the status is the worst that a line makes
+-- a script was answered: the lone caller's text was added to what the sink had, the image stands for the table that the script leaves, and the status is the greatest that a line makes
 pub record IsAnswered {K : ℕ} (capacity : ℕ) (requests : List (Request K)) (had has image : List ℕ) (status : ℕ) : Type 0 where
   pub told : has ≡ had ++ printed capacity requests
   pub stands : StandsFor K capacity image (left_by capacity requests)
   pub ends : status ≡ worst_of (answers capacity empty requests)
 
--- two pairs of counts: one of the two rose
-abbrev pub OneRose : ℕ → ℕ → ℕ → ℕ → Type 0
-OneRose a b c d = Rose a b ⊎ Rose c d
+-- one of some counts rose, each given as it was and as it is
+abbrev pub OneRose : List (ℕ × ℕ) → Type 0
+OneRose [] = ⊥
+OneRose (c ∷ cs) = Rose c.0 c.1 ⊎ OneRose cs

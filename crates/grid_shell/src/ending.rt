@@ -1,6 +1,6 @@
 //! How a run ends.
 ghost use Rattle.std.specs.Prelude.{◌≡◌, max};
-ghost use Rattle.grid_shell.specs.Endings.{status_of, with_fault_of, refusal_end, line_end, worst_of};
+ghost use Rattle.grid_shell.specs.Endings.{status_of, with_fault_of, refusal_end, line_end, worst_of, IsLineEnd, HasBegun};
 
 use grid_types::{Refusal, Reply};
 
@@ -41,7 +41,8 @@ impl Ending {
 
     /// The end where a device has failed too.
     pub fn with_fault(self) -> Ending
-        ensures { result ≡ with_fault_of self }
+        ensures value { result ≡ with_fault_of self }
+        ensures begun { HasBegun self → HasBegun result }
     {
         match self {
             Ending::Done => Ending::Device,
@@ -52,7 +53,8 @@ impl Ending {
 
     /// The one of greater status.
     fn or_worse(self, other: Ending) -> Ending
-        ensures { status_of result ≡ max (status_of self) (status_of other) }
+        ensures status { status_of result ≡ max (status_of self) (status_of other) }
+        ensures line { IsLineEnd self → IsLineEnd other → IsLineEnd result }
     {
         if self.status() < other.status() {
             other
@@ -62,11 +64,12 @@ impl Ending {
     }
 
     fn of_refusal(refusal: &Refusal) -> Ending
-        ensures { result ≡ refusal_end refusal.now }
+        ensures value { result ≡ refusal_end refusal.now }
+        ensures line { IsLineEnd result }
     {
         match refusal {
             Refusal::NoMemory => Ending::Memory,
-            Refusal::ReadFault | Refusal::WriteFault => Ending::Device,
+            Refusal::ReadFault | Refusal::WriteFault => Ending::Done,
             Refusal::Damaged { .. }
             | Refusal::Foreign
             | Refusal::Version { .. }
@@ -83,7 +86,8 @@ impl Ending {
     }
 
     fn of_line(reply: &Reply) -> Ending
-        ensures { result ≡ line_end reply.now }
+        ensures value { result ≡ line_end reply.now }
+        ensures line { IsLineEnd result }
     {
         match reply {
             Reply::Put(_) | Reply::Got(_) => Ending::Done,
@@ -93,7 +97,8 @@ impl Ending {
 
     /// The end of greatest status that the lines make.
     pub fn worst(replies: &[Reply]) -> Ending
-        ensures { status_of result ≡ worst_of replies.now }
+        ensures status { status_of result ≡ worst_of replies.now }
+        ensures line { IsLineEnd result }
     {
         let mut worst = Ending::Done;
         for reply in replies {

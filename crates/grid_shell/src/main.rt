@@ -6,6 +6,8 @@ mod ending;
 mod input;
 mod lone;
 mod printing;
+mod run;
 mod session;
+mod telling;
 
 fn main() {}

@@ -4,11 +4,14 @@ use Rattle.grid_shell.proofs.Worst.{worst_none, worst_more}
 use Rattle.grid_shell.proofs.ending.Ending.worst.Goals as goal
 
 pub loop-reply-init : goal.loop-reply-init
-loop-reply-init c = sym worst_none
+loop-reply-init c = record { status = sym worst_none; line = tt }
 
 pub loop-reply-preserved : goal.loop-reply-preserved
 loop-reply-preserved c =
-    let line = c.of_line.ensures ∙ ap line_end c.reply-item.is in
-    c.or_worse-worst.ensures
-    ∙ (λ i. max (c.loop-reply.invariant i) (status_of (line i)))
-    ∙ sym (worst_more c.args.replies.now c.loop-reply.reply-index c.reply-item.result (omega arith))
+    let end = c.of_line.ensures.value ∙ ap line_end c.reply-item.is in
+    record {
+      status = c.or_worse-worst.ensures.status
+          ∙ (λ i. max (c.loop-reply.invariant.status i) (status_of (end i)))
+          ∙ sym (worst_more c.args.replies.now c.loop-reply.reply-index c.reply-item.result (omega arith));
+      line = c.or_worse-worst.ensures.line c.loop-reply.invariant.line c.of_line.ensures.line;
+    }
