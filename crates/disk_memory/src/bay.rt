@@ -3,7 +3,6 @@ ghost use Rattle.std.specs.Prelude.{◌≡◌, ◌≢◌, ◌⊎◌, ◌*◌, Co
 ghost use Rattle.std.specs.List.{position};
 ghost use Rattle.disk_trait.specs.Bay.{Absent, Out, Home, SameBut, Tells, IsNew, HasNameCause};
 ghost use Rattle.disk_trait.specs.Causes.{HasCause, Rose};
-
 ghost use Rattle.disk_memory.specs.Bays.{is_named};
 
 use crate::memory::Memory;
@@ -124,9 +123,7 @@ impl MemoryBay {
 fn first_with_name(entries: &[Entry], name: &str) -> Option<usize>
     ensures { result ≡ position (is_named name.now) entries.now }
 {
-    entries
-        .iter()
-        .position(|entry| entry.name.as_str() == name)
+    entries.iter().position(|entry| entry.name.as_str() == name)
 }
 
 fn count_failure(failures: &mut u64) -> BayFailed
@@ -141,7 +138,7 @@ impl Bay for MemoryBay {
     type Disk = Memory;
 
     ghost use Rattle.disk_memory.specs.Plans.{after_a_call, counted};
-    ghost use Rattle.disk_memory.specs.Memories.{is_told, bytes_of, extent_of, LeftSince, failed_reads, failed_writes, chosen_of, TellsSame};
+    ghost use Rattle.disk_memory.specs.Memories.{is_told, bytes_of, dirty_of, extent_of, LeftSince, failed_reads, failed_writes, chosen_of, TellsSame};
     ghost use Rattle.disk_memory.specs.Bays.{place_of, failures_of, chosen_calls, HasNoDisk};
 
     ghost tells = { λ b. true };
@@ -192,6 +189,7 @@ impl Bay for MemoryBay {
         ensures cause { HasNameCause (place_of self.old name.now ≡ Absent) (failures_of self.old) (failures_of self.new) result }
 
         // An open that was chosen fails, and any other only where no disk lies there.
+        ensures dirty { IfOk result (λ d. Tells (λ m. dirty_of d ≡ dirty_of m) (place_of self.old name.now)) }
         ensures planned { IfOk result (λ d. Tells (λ m. chosen_of d ≡ chosen_of m) (place_of self.old name.now)) }
         ensures fails { Contains (chosen_calls self.old) 1 → IsErr result }
         ensures failed { OnErr result (Contains (chosen_calls self.old) 1 ⊎ HasNoDisk (place_of self.old name.now)) }

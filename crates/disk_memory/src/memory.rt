@@ -29,7 +29,7 @@ pub struct Memory {
 }
 
 impl Memory {
-    ghost use Rattle.disk_memory.specs.Memories.{bytes_of, extent_of, failed_reads, failed_writes, chosen_of, IsFresh, TellsSame};
+    ghost use Rattle.disk_memory.specs.Memories.{bytes_of, dirty_of, extent_of, failed_reads, failed_writes, chosen_of, IsFresh, TellsSame};
 
     /// A disk of that many pages, all zeros. It fails for want of memory, and where a `usize` can't count the bytes.
     pub fn new(alloc: Global, pages: u64) -> Result<Memory, AllocError>
@@ -60,6 +60,7 @@ impl Memory {
     /// From now on that call fails, counted from 1 over reads, writes and syncs: 1 is the next of them.
     pub fn fail(&mut self, call: u64) -> Result<(), AllocError>
         ensures same { TellsSame self.new self.old }
+        ensures dirty { dirty_of self.new ≡ dirty_of self.old }
         ensures reads { failed_reads self.new ≡ failed_reads self.old }
         ensures writes { failed_writes self.new ≡ failed_writes self.old }
         ensures chosen { OnOk result (chosen_of self.new ≡ chosen_of self.old ++ call ∷ []) }

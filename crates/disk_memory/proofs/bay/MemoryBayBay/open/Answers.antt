@@ -1,6 +1,6 @@
 use Rattle.std.proofs.Common.{◌≡◌, ◌∙◌, inr, ap, sym, subst, refl}
 use Rattle.disk_trait.specs.Bay.{Tells, Home}
-use Rattle.disk_memory.specs.Memories.{TellsSame, chosen_of}
+use Rattle.disk_memory.specs.Memories.{TellsSame, chosen_of, dirty_of}
 use Rattle.disk_memory.specs.Bays.{place_of_disk, place_in}
 use Rattle.disk_memory.proofs.Places.{found_place, changed_place, changed_others, counted_failure, unfailed_same}
 use Rattle.disk_memory.proofs.bay.MemoryBayBay.open.Goals as goal
@@ -14,6 +14,9 @@ lay_there c = found_place _ _ _ c.index_mut.result.now (sym c.in-Some.ensures.fi
 
 pub returns-in-Some-take-clause-same : goal.returns-in-Some-take-clause-same
 returns-in-Some-take-clause-same c = subst (Tells (TellsSame c.unfailed.result)) (sym (lay_there c)) (unfailed_same c.in-Some-take.disk c.unfailed.result c.unfailed.ensures)
+
+pub returns-in-Some-take-clause-dirty : goal.returns-in-Some-take-clause-dirty
+returns-in-Some-take-clause-dirty c = subst (Tells (λ m. dirty_of c.unfailed.result ≡ dirty_of m)) (sym (lay_there c)) (ap dirty_of c.unfailed.ensures)
 
 pub returns-in-Some-take-clause-planned : goal.returns-in-Some-take-clause-planned
 returns-in-Some-take-clause-planned c = subst (Tells (λ m. chosen_of c.unfailed.result ≡ chosen_of m)) (sym (lay_there c)) (ap chosen_of c.unfailed.ensures)
