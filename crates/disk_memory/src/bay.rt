@@ -19,8 +19,8 @@ struct Entry {
 
 /// A bay of disks in memory, each under a name that is compared by its bytes.
 ///
-/// A call that was chosen to fail fails before it looks for the name. A close may be told of a disk whose own calls
-/// have failed: the bay's count rises then, and the disk is put back all the same.
+/// A call that was chosen to fail fails before it looks for the name. Where calls of a disk itself have failed, its close
+/// raises the bay's count and puts the disk back all the same. A close that fails loses the disk.
 #[derive(Drop)]
 pub struct MemoryBay {
     alloc: Global,
@@ -157,7 +157,7 @@ impl Bay for MemoryBay {
         ensures refused { OnErr result (place_of self.new name.now ≡ place_of self.old name.now) }
         ensures cause { HasNameCause (place_of self.old name.now ≢ Absent) (failures_of self.old) (failures_of self.new) result }
 
-        // A create that was chosen fails, and any other only where the name is there or memory wants.
+        // A create that was chosen fails, and any other only where the name is there or for want of memory.
         ensures unplanned { IfOk result (λ d. chosen_of d ≡ []) }
         ensures fails { Contains (chosen_calls self.old) 1 → IsErr result }
         ensures uncounted { OnOk result (failures_of self.new ≡ failures_of self.old) }

@@ -17,7 +17,8 @@ const PAGE_SIZE: usize = 4096;
 ///
 /// Between two syncs a crash may leave anything in the ranges that were written since, also by writes that failed, and
 /// leaves all else as it was. Reads give each write's bytes at once. A write that was chosen to fail leaves what reads
-/// give as it was; one whose record finds no memory fails too, and changes nothing. No other call fails.
+/// give as it was; one whose record finds no memory fails too, and changes nothing. A read or a sync fails only where it
+/// was chosen.
 #[derive(Drop)]
 pub struct Memory {
     history: History,
