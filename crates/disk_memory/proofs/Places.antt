@@ -7,7 +7,7 @@ use Rattle.std.proofs.lemmas.List.Sums.{fails_before_first}
 use Rattle.std.specs.Prelude.{◌↔◌, ◌-◌, ◌^◌, min, Err, string_bytes, nat_lt, IsNone, if◌then◌else◌}
 use Rattle.std.specs.List.{position, position_or_len}
 use Rattle.std.specs.Str.{bytes_eq}
-use Rattle.disk_trait.specs.Bay.{Place, Absent, Out, Home, SameBut, HasNameCause}
+use Rattle.disk_trait.specs.Bay.{Absent, SameBut, HasNameCause}
 use Rattle.disk_memory.specs.declared.memory.Memory.{Memory}
 use Rattle.disk_memory.specs.declared.bay.Entry.{Entry}
 use Rattle.disk_memory.specs.Memories.{TellsSame}

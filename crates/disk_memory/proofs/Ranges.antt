@@ -3,7 +3,7 @@ use Rattle.std.proofs.Common.{◌≡◌, ◌<◌, ◌≤◌, ◌⊎◌, inl, inr
 use Rattle.std.proofs.lemmas.List.{drop-drop, drop_at, length-take, length-take-le, length-drop, get_or-take, get_or-drop, get_or_append_left, get_or-append_right, ext_get_or, places}
 use Rattle.std.proofs.lemmas.Slice.{overwrites}
 use Rattle.disk_trait.specs.Disk.{Agrees, Holds, page_of}
-use Rattle.disk_trait.specs.Moments.{AgreesOutside, IsOutside}
+use Rattle.disk_trait.specs.Moments.{AgreesOutside}
 
 pub agrees_same : (at n : ℕ) (c : List ℕ) → Agrees at n c c
 agrees_same at n c = record { same_length = refl; before = refl; after = refl }

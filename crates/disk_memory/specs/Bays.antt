@@ -28,9 +28,9 @@ place_of b name = place_in b.entries.items name
 abbrev pub failures_of : MemoryBay → ℕ
 failures_of b = b.failures
 
--- which calls of a bay are to fail
-abbrev pub chosen_of : MemoryBay → List ℕ
-chosen_of b = b.plan
+-- which calls of a bay are to fail, each counted from the next one on
+abbrev pub chosen_calls : MemoryBay → List ℕ
+chosen_calls b = b.plan
 
 -- nothing under any name changed
 abbrev pub SamePlaces : MemoryBay → MemoryBay → Type 0

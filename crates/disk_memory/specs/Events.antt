@@ -1,5 +1,4 @@
 -- What the record of a disk's events says.
-use Rattle.std.specs.Prelude.{List, map}
 use Rattle.disk_memory.specs.declared.history.Event.{Event}
 use Rattle.disk_memory.specs.declared.history.Event.TheVariants.{Write, FailedWrite, Sync}
 use Rattle.disk_memory.specs.Past.{Change, Written, Failed, Synced}

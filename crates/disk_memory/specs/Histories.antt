@@ -1,5 +1,5 @@
 -- What the fields of a disk's history stand for.
-use Rattle.std.specs.Prelude.{◌≡◌, ◌<◌, Bool, true, false, List, [], map, vec_len, vec_capacity}
+use Rattle.std.specs.Prelude.{◌≡◌, ◌<◌, true, false, [], map, vec_len, vec_capacity}
 use Rattle.disk_memory.specs.declared.history.History.TheInside.{Inside}
 use Rattle.disk_memory.specs.Events.{change_of}
 use Rattle.disk_memory.specs.Past.{Past, held}

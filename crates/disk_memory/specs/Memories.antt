@@ -57,6 +57,7 @@ TimeGoesOn old new = Elapses (moment_of old) (moment_of new) (LeftSince old) (Le
 -- reads of a new disk give this image, no crash has ever left anything else, no call has failed and none is to fail
 pub record IsFresh (image : List ℕ) (m : Memory) : Type 0 where
   pub bytes : bytes_of m ≡ image
+  pub clean : dirty_of m ≡ []
   pub always : (t : ℕ) (c : List ℕ) → LeftSince m t c → c ≡ image
   pub no_read_failed : failed_reads m ≡ 0
   pub no_write_failed : failed_writes m ≡ 0

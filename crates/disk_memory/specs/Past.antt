@@ -1,5 +1,5 @@
 -- What a disk in memory has held, and which of its bytes are on the disk.
-use Rattle.std.specs.Prelude.{◌≡◌, ◌≤◌, ◌+◌, ℕ, List, [], ◌∷◌, ◌++◌, length, take, drop}
+use Rattle.std.specs.Prelude.{◌≤◌, ◌+◌, ℕ, List, [], ◌∷◌, ◌++◌, length, take, drop}
 use Rattle.disk_trait.specs.Moments.{AgreesOutside}
 
 -- bytes are written from an offset on, or a write of n bytes fails there, or all is put on the disk

@@ -1,5 +1,5 @@
 -- What a disk in memory owes the laws of a disk.
-use Rattle.std.proofs.Common.{◌≡◌, ◌≤◌, ℕ, List, length, take, refl, sym, subst, arith}
+use Rattle.std.proofs.Common.{◌≤◌, ℕ, List, length, refl, sym, subst, arith}
 use Rattle.std.proofs.lemmas.List.{take_all}
 use Rattle.disk_memory.specs.Past.{Past, held, held_after, Leaves, HadBeen}
 

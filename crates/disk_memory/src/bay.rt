@@ -1,8 +1,8 @@
 //! A bay of disks in memory.
-ghost use Rattle.std.specs.Prelude.{◌≡◌, ◌↔◌, ◌+◌, ◌-◌, ◌^◌, ◌++◌, ◌∷◌, [], min, ◌≤◌, List, ℕ, true, IsNone, IfOk, IfSome, IfNone, OnOk, OnErr};
+ghost use Rattle.std.specs.Prelude.{◌≡◌, ◌≢◌, ◌⊎◌, ◌*◌, Contains, IsErr, ◌↔◌, ◌+◌, ◌-◌, ◌^◌, ◌++◌, ◌∷◌, [], min, ◌≤◌, List, ℕ, true, IsNone, IfOk, IfSome, IfNone, OnOk, OnErr};
 ghost use Rattle.std.specs.List.{position};
-ghost use Rattle.disk_trait.specs.Bay.{Absent, Out, Home, SameBut, Tells};
-
+ghost use Rattle.disk_trait.specs.Bay.{Absent, Out, Home, SameBut, Tells, IsNew, HasNameCause};
+ghost use Rattle.disk_trait.specs.Causes.{HasCause, Rose};
 ghost use Rattle.disk_memory.specs.Bays.{is_named};
 
 use crate::memory::Memory;
@@ -19,8 +19,8 @@ struct Entry {
 
 /// A bay of disks in memory, each under a name that is compared by its bytes.
 ///
-/// A call that was chosen to fail fails before it looks for the name. A close may be told of a disk whose own calls
-/// have failed: the bay's count rises then, and the disk is put back all the same.
+/// A call that was chosen to fail fails before it looks for the name. Where calls of a disk itself have failed, its close
+/// raises the bay's count and puts the disk back all the same. A close that fails loses the disk.
 #[derive(Drop)]
 pub struct MemoryBay {
     alloc: Global,
@@ -31,13 +31,13 @@ pub struct MemoryBay {
 
 impl MemoryBay {
     ghost use Rattle.disk_memory.specs.Memories.{bytes_of};
-    ghost use Rattle.disk_memory.specs.Bays.{is_named, place_of, place_of_disk, failures_of, chosen_of, SamePlaces, HasNoDisk};
+    ghost use Rattle.disk_memory.specs.Bays.{is_named, place_of, place_of_disk, failures_of, chosen_calls, SamePlaces, HasNoDisk};
 
     /// A bay with no name.
     pub fn new(alloc: Global) -> MemoryBay
         ensures absent { (name : List ℕ) → place_of result name ≡ Absent }
         ensures unfailed { failures_of result ≡ 0 }
-        ensures unplanned { chosen_of result ≡ [] }
+        ensures unplanned { chosen_calls result ≡ [] }
     {
         MemoryBay {
             alloc,
@@ -54,7 +54,7 @@ impl MemoryBay {
         ensures refused { OnErr result (place_of self.new name.now ≡ Absent) }
         ensures others { SameBut name.now (place_of self.old) (place_of self.new) }
         ensures failures { failures_of self.new ≡ failures_of self.old }
-        ensures chosen { chosen_of self.new ≡ chosen_of self.old }
+        ensures chosen { chosen_calls self.new ≡ chosen_calls self.old }
     {
         self.add_entry(name, Some(disk))
     }
@@ -77,8 +77,8 @@ impl MemoryBay {
     pub fn fail(&mut self, call: u64) -> Result<(), AllocError>
         ensures same { SamePlaces self.old self.new }
         ensures failures { failures_of self.new ≡ failures_of self.old }
-        ensures chosen { OnOk result (chosen_of self.new ≡ chosen_of self.old ++ call ∷ []) }
-        ensures refused { OnErr result (chosen_of self.new ≡ chosen_of self.old) }
+        ensures chosen { OnOk result (chosen_calls self.new ≡ chosen_calls self.old ++ call ∷ []) }
+        ensures refused { OnErr result (chosen_calls self.new ≡ chosen_calls self.old) }
     {
         self.plan.choose(call)
     }
@@ -96,7 +96,7 @@ impl MemoryBay {
         ensures refused { OnErr result (place_of self.new name.now ≡ Absent) }
         ensures others { SameBut name.now (place_of self.old) (place_of self.new) }
         ensures failures { failures_of self.new ≡ failures_of self.old }
-        ensures chosen { chosen_of self.new ≡ chosen_of self.old }
+        ensures chosen { chosen_calls self.new ≡ chosen_calls self.old }
     {
         let name = String::from_str(self.alloc, name)?;
         self.entries.push(Entry { name, disk })?;
@@ -108,7 +108,7 @@ impl MemoryBay {
         ensures home { OnOk result (place_of self.new name.now ≡ Home disk) }
         ensures others { SameBut name.now (place_of self.old) (place_of self.new) }
         ensures failures { failures_of self.new ≡ failures_of self.old }
-        ensures chosen { chosen_of self.new ≡ chosen_of self.old }
+        ensures chosen { chosen_calls self.new ≡ chosen_calls self.old }
     {
         match self.find(name) {
             Some(index) => {
@@ -123,9 +123,7 @@ impl MemoryBay {
 fn first_with_name(entries: &[Entry], name: &str) -> Option<usize>
     ensures { result ≡ position (is_named name.now) entries.now }
 {
-    entries
-        .iter()
-        .position(|entry| entry.name.as_str() == name)
+    entries.iter().position(|entry| entry.name.as_str() == name)
 }
 
 fn count_failure(failures: &mut u64) -> BayFailed
@@ -139,7 +137,9 @@ fn count_failure(failures: &mut u64) -> BayFailed
 impl Bay for MemoryBay {
     type Disk = Memory;
 
-    ghost use Rattle.disk_memory.specs.Bays.{place_of, failures_of};
+    ghost use Rattle.disk_memory.specs.Plans.{after_a_call, counted};
+    ghost use Rattle.disk_memory.specs.Memories.{is_told, bytes_of, dirty_of, extent_of, LeftSince, failed_reads, failed_writes, chosen_of, TellsSame};
+    ghost use Rattle.disk_memory.specs.Bays.{place_of, failures_of, chosen_calls, HasNoDisk};
 
     ghost tells = { λ b. true };
 
@@ -147,7 +147,24 @@ impl Bay for MemoryBay {
 
     ghost fault_count = { failures_of };
 
-    fn create(&mut self, name: &str, pages: u64) -> Result<Memory, BayFailed> {
+    fn create(&mut self, name: &str, pages: u64) -> Result<Memory, BayFailed>
+        ensures extent { IfOk result (λ d. extent_of d ≡ pages * 4096) }
+        ensures unfailed { IfOk result (λ d. (failed_reads d ≡ 0) × (failed_writes d ≡ 0)) }
+        ensures zeros { IfOk result (IsNew is_told bytes_of LeftSince (pages * 4096)) }
+        ensures absent { OnOk result (place_of self.old name.now ≡ Absent) }
+        ensures out { OnOk result (place_of self.new name.now ≡ Out) }
+        ensures others { SameBut name.now (place_of self.old) (place_of self.new) }
+        ensures refused { OnErr result (place_of self.new name.now ≡ place_of self.old name.now) }
+        ensures cause { HasNameCause (place_of self.old name.now ≢ Absent) (failures_of self.old) (failures_of self.new) result }
+
+        // A create that was chosen fails, and any other only where the name is there or for want of memory.
+        ensures unplanned { IfOk result (λ d. chosen_of d ≡ []) }
+        ensures fails { Contains (chosen_calls self.old) 1 → IsErr result }
+        ensures uncounted { OnOk result (failures_of self.new ≡ failures_of self.old) }
+        ensures counted { OnErr result (place_of self.old name.now ≡ Absent → failures_of self.new ≡ counted result (failures_of self.old)) }
+        ensures there { (Contains (chosen_calls self.old) 1 → ⊥) → place_of self.old name.now ≢ Absent → failures_of self.new ≡ failures_of self.old }
+        ensures nearer { chosen_calls self.new ≡ after_a_call (chosen_calls self.old) }
+    {
         if self.plan.is_next_chosen() {
             return Err(count_failure(&mut self.failures));
         }
@@ -163,7 +180,24 @@ impl Bay for MemoryBay {
         }
     }
 
-    fn open(&mut self, name: &str) -> Result<Memory, BayFailed> {
+    fn open(&mut self, name: &str) -> Result<Memory, BayFailed>
+        ensures unfailed { IfOk result (λ d. (failed_reads d ≡ 0) × (failed_writes d ≡ 0)) }
+        ensures same { IfOk result (λ d. Tells (TellsSame d) (place_of self.old name.now)) }
+        ensures out { OnOk result (place_of self.new name.now ≡ Out) }
+        ensures others { SameBut name.now (place_of self.old) (place_of self.new) }
+        ensures refused { OnErr result (place_of self.new name.now ≡ place_of self.old name.now) }
+        ensures cause { HasNameCause (place_of self.old name.now ≡ Absent) (failures_of self.old) (failures_of self.new) result }
+
+        // An open that was chosen fails, and any other only where no disk lies there.
+        ensures dirty { IfOk result (λ d. Tells (λ m. dirty_of d ≡ dirty_of m) (place_of self.old name.now)) }
+        ensures planned { IfOk result (λ d. Tells (λ m. chosen_of d ≡ chosen_of m) (place_of self.old name.now)) }
+        ensures fails { Contains (chosen_calls self.old) 1 → IsErr result }
+        ensures failed { OnErr result (Contains (chosen_calls self.old) 1 ⊎ HasNoDisk (place_of self.old name.now)) }
+        ensures uncounted { OnOk result (failures_of self.new ≡ failures_of self.old) }
+        ensures counted { OnErr result (place_of self.old name.now ≢ Absent → failures_of self.new ≡ counted result (failures_of self.old)) }
+        ensures absent { (Contains (chosen_calls self.old) 1 → ⊥) → place_of self.old name.now ≡ Absent → failures_of self.new ≡ failures_of self.old }
+        ensures nearer { chosen_calls self.new ≡ after_a_call (chosen_calls self.old) }
+    {
         if self.plan.is_next_chosen() {
             return Err(count_failure(&mut self.failures));
         }
@@ -176,7 +210,19 @@ impl Bay for MemoryBay {
         }
     }
 
-    fn close(&mut self, name: &str, disk: Memory) -> Result<(), BayFailed> {
+    fn close(&mut self, name: &str, disk: Memory) -> Result<(), BayFailed>
+        ensures home { OnOk result (place_of self.new name.now ≡ Home disk) }
+        ensures others { SameBut name.now (place_of self.old) (place_of self.new) }
+        ensures read_failed { failed_reads disk ≢ 0 → Rose (failures_of self.old) (failures_of self.new) }
+        ensures write_failed { failed_writes disk ≢ 0 → Rose (failures_of self.old) (failures_of self.new) }
+        ensures cause { HasCause (failures_of self.old) (failures_of self.new) result }
+
+        // A close that was chosen fails, and any other only for want of memory. It counts one failure at most.
+        ensures fails { Contains (chosen_calls self.old) 1 → IsErr result }
+        ensures uncounted { OnOk result (failed_reads disk ≡ 0 → failed_writes disk ≡ 0 → failures_of self.new ≡ failures_of self.old) }
+        ensures once { failures_of self.new ≤ failures_of self.old + 1 }
+        ensures nearer { chosen_calls self.new ≡ after_a_call (chosen_calls self.old) }
+    {
         let disk_failed = disk.read_faults() != 0 || disk.write_faults() != 0;
         let is_closed = !self.plan.is_next_chosen() && self.put_back(name, disk).is_ok();
         if disk_failed || !is_closed {

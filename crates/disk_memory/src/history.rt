@@ -1,7 +1,6 @@
 //! What a disk in memory has held since it was made.
 ghost use Rattle.std.specs.Prelude.{◌≡◌, ◌⊎◌, [], OnOk, OnErr, IfOk};
 ghost use Rattle.disk_memory.specs.Past.{Written, Failed, Synced, held, with_change};
-
 ghost use Rattle.disk_memory.specs.Events.{change_of};
 
 use std::alloc::{AllocError, Global};

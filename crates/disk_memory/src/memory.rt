@@ -17,7 +17,8 @@ const PAGE_SIZE: usize = 4096;
 ///
 /// Between two syncs a crash may leave anything in the ranges that were written since, also by writes that failed, and
 /// leaves all else as it was. Reads give each write's bytes at once. A write that was chosen to fail leaves what reads
-/// give as it was; one whose record finds no memory fails too, and changes nothing. No other call fails.
+/// give as it was; one whose record finds no memory fails too, and changes nothing. A read or a sync fails only where it
+/// was chosen.
 #[derive(Drop)]
 pub struct Memory {
     history: History,
@@ -29,7 +30,7 @@ pub struct Memory {
 }
 
 impl Memory {
-    ghost use Rattle.disk_memory.specs.Memories.{bytes_of, extent_of, failed_reads, failed_writes, chosen_of, IsFresh, TellsSame};
+    ghost use Rattle.disk_memory.specs.Memories.{bytes_of, dirty_of, extent_of, failed_reads, failed_writes, chosen_of, IsFresh, TellsSame};
 
     /// A disk of that many pages, all zeros. It fails for want of memory, and where a `usize` can't count the bytes.
     pub fn new(alloc: Global, pages: u64) -> Result<Memory, AllocError>
@@ -60,6 +61,7 @@ impl Memory {
     /// From now on that call fails, counted from 1 over reads, writes and syncs: 1 is the next of them.
     pub fn fail(&mut self, call: u64) -> Result<(), AllocError>
         ensures same { TellsSame self.new self.old }
+        ensures dirty { dirty_of self.new ≡ dirty_of self.old }
         ensures reads { failed_reads self.new ≡ failed_reads self.old }
         ensures writes { failed_writes self.new ≡ failed_writes self.old }
         ensures chosen { OnOk result (chosen_of self.new ≡ chosen_of self.old ++ call ∷ []) }

@@ -1,4 +1,4 @@
-use Rattle.std.proofs.Common.{◌≡◌, ◌*◌, ◌∙◌, ℕ, ap, replicate, subst, refl}
+use Rattle.std.proofs.Common.{◌≡◌, ◌*◌, ◌∙◌, ℕ, ap, replicate, subst}
 use Rattle.std.specs.Prelude.{IfOk}
 use Rattle.disk_trait.specs.Bay.{blank}
 use Rattle.disk_memory.specs.Memories.{IsFresh}

@@ -10,7 +10,7 @@ invariant_of-self c = record { kept = c.args.self.now.kept ∙ sym (failed_same 
 pub invariant_of-self-in-Ok : goal.invariant_of-self-in-Ok
 invariant_of-self-in-Ok c = record {
   kept = with_items_is c.args.self.now.bytes c.overwrite.new.all (omega arith)
-      ∙ written_over _ _ _ _ c.in-Ok.ensures.recorded _ _ (c.deref_mut.ensures.value ∙ c.args.self.now.kept) c.overwrite.ensures
+      ∙ written_over _ _ _ _ c.in-Ok.ensures.recorded _ _ (c.deref_mut.ensures.value ∙ c.args.self.now.kept) c.overwrite.ensures;
 }
 
 pub returns-then-is_next_chosen-clause-crash : goal.returns-then-is_next_chosen-clause-crash
