@@ -5,5 +5,6 @@ pub mod Pairs
 pub mod Pieces
 pub mod Replies
 pub mod Sequences
+pub mod Sessions
 pub mod Taking
 pub mod Worst
