@@ -1,9 +1,9 @@
 -- A lawful bucket stays lawful when a lawful record is put into it.
-use Rattle.std.proofs.Common.{◌≡◌, ◌<◌, ◌≤◌, ℕ, List, length, get_or, sym, ap, subst, ◌∙◌, arith}
-use Rattle.std.specs.Prelude.{T, map}
+use Rattle.std.proofs.Common.{◌≡◌, ◌<◌, ◌≤◌, ℕ, List, length, get_or, sym, subst, arith}
+use Rattle.std.specs.Prelude.{T}
 use Rattle.std.specs.List.{All}
 use Rattle.std.specs.Cmp.Lexicographic.{nat_list_cmp_total}
-use Rattle.std.specs.FinMap.Entries.{is_sorted, is_sorted-put, put}
+use Rattle.std.specs.FinMap.Entries.{is_sorted, is_sorted-put}
 use Rattle.std.proofs.lemmas.List.{get_or-map, length-map}
 use Rattle.grid_types.specs.declared.update.Record.{Record}
 use Rattle.grid_types.specs.declared.region.Region.{Region}
@@ -24,8 +24,8 @@ rows_put : {K : ℕ} (P : Record K → Type 0) (old new : List (Record K)) (k v 
 rows_put {K} P old new k v e each one i d lt =
     let Q : List ℕ × List ℕ → Type 0 = λ x. P (record_of x) in
     let before : All Q (entries_of old) = λ j x h.
-      let low : j < length old = omega (arith, h, length-map old entry) in
-      subst Q (sym (get_or-map entry old j (record_of x) x low)) (each j (record_of x) low) in
+    let low : j < length old = omega (arith, h, length-map old entry) in
+    subst Q (sym (get_or-map entry old j (record_of x) x low)) (each j (record_of x) low) in
     let after : All Q (entries_of new) = subst (All Q) (sym e) (all_put Q k v (entries_of old) before one) in
     subst Q (get_or-map entry new i d (entry d) lt) (after i (entry d) (omega (arith, lt, length-map new entry)))
 
@@ -37,7 +37,7 @@ pub lawful_put : (K c : ℕ) (old new : Bucket K) (k v : List ℕ) → IsBucket 
     → length new.rows.items ≤ c → IsKey K k → length v ≤ 40 → Within old.region.lo old.region.hi k → IsBucket K c new
 lawful_put K c old new k v fits en et er e le key short inside =
     let within : (r : Region K) → r ≡ old.region → AllInside r new.rows.items = λ r same.
-      subst (λ (x : Region K). AllInside x new.rows.items) (sym same) (rows_put (λ (x : Record K). Within old.region.lo old.region.hi x.key.at) old.rows.items new.rows.items k v e fits.inside inside) in
+    subst (λ (x : Region K). AllInside x new.rows.items) (sym same) (rows_put (λ (x : Record K). Within old.region.lo old.region.hi x.key.at) old.rows.items new.rows.items k v e fits.inside inside) in
     record {
       number = omega (arith, en, fits.number);
       turn = omega (arith, et, fits.turn);

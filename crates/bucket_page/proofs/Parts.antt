@@ -1,5 +1,5 @@
 -- The parts of a page, one after the other.
-use Rattle.std.proofs.Common.{◌≡◌, ◌+◌, ◌-◌, ℕ, List, [], ◌∷◌, ◌++◌, length, sym, ap, ◌∙◌, append_assoc, replicate, codes}
+use Rattle.std.proofs.Common.{◌≡◌, ◌-◌, ℕ, List, [], ◌∷◌, ◌++◌, length, ◌∙◌, append_assoc, replicate, codes}
 use Rattle.grid_types.specs.declared.update.Record.{Record}
 use Rattle.page_fields.specs.Fields.{bytes_of}
 use Rattle.page_fields.specs.Padded.{padded, numbers}

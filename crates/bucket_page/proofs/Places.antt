@@ -1,12 +1,12 @@
 -- A record that is put in its place makes the table with its data at its key.
-use Rattle.std.proofs.Common.{◌≡◌, ◌<◌, ◌≤◌, ◌+◌, ◌⊎◌, inl, inr, ℕ, zero, suc, List, [], ◌∷◌, ◌++◌, map, length, take, drop, get_or, refl, sym, ap, subst, ◌∙◌, append_assoc, arith}
-use Rattle.std.specs.Prelude.{Bool, true, false, Option, Some, None, IsSome}
-use Rattle.std.specs.Ordering.{is_eq, eq_by_cmp}
+use Rattle.std.proofs.Common.{◌≡◌, ◌<◌, ◌≤◌, ◌+◌, ◌⊎◌, inl, inr, ℕ, suc, List, [], ◌∷◌, ◌++◌, length, take, drop, get_or, set, refl, sym, ap, subst, ◌∙◌, arith}
+use Rattle.std.specs.Prelude.{true, Option, Some, None, IsSome}
+use Rattle.std.specs.Ordering.{eq_by_cmp}
 use Rattle.std.specs.declared.cmp.Ordering.TheVariants.{Less, Equal, Greater}
 use Rattle.std.specs.FinMap.Entries.{put, find}
 use Rattle.std.proofs.lemmas.Bool.{false≢true}
-use Rattle.std.specs.List.{insert, remove}
-use Rattle.std.proofs.lemmas.List.{take-append-drop, map-append, get_or-map, get_or-take, length-map, length-take-le, length-take, drop_more, drop_all, take_at, drop_at, get_or_default}
+use Rattle.std.specs.List.{insert, refill}
+use Rattle.std.proofs.lemmas.List.{take-append-drop, map-append, get_or-map, get_or-take, length-map, length-take-le, drop_more, drop_all, take_at, set_split, length-set, get_or_default}
 use Rattle.grid_types.specs.declared.update.Record.{Record}
 use Rattle.grid_types.specs.Keys.{key_cmp}
 use Rattle.grid_model.specs.Tables.{entry, entries_of}
@@ -59,19 +59,27 @@ put_there {K} k v rows at lt equal =
     let next : at + 1 ≡ suc at = omega arith in
     rw (drop_more rows at d lt, here, ← key, next) refl
 
-pub there : {K : ℕ} (k v : List ℕ) (rows others : List (Record K)) (at : ℕ) (r : Record K) → r.key.at ≡ k → r.value ≡ v → at < length rows → Below k rows at → ((d : Record K) → key_cmp k (get_or rows at d).key.at ≡ Equal)
-    → others ≡ remove rows at → entries_of (insert others at r) ≡ put key_cmp k v (entries_of rows)
-there k v rows others at r ek ev lt below equal e =
+-- new data in the row that has the key
+pub there : {K : ℕ} (k v : List ℕ) (rows : List (Record K)) (at : ℕ) (r : Record K) → r.key.at ≡ k → r.value ≡ v → at < length rows → Below k rows at → ((d : Record K) → key_cmp k (get_or rows at d).key.at ≡ Equal)
+    → entries_of (set rows at r) ≡ put key_cmp k v (entries_of rows)
+there k v rows at r ek ev lt below equal =
     let new : entry r ≡ (k, v) = λ i. (ek i, ev i) in
-    let short : length (take at rows) ≡ at = length-take-le at rows (omega arith) in
-    let front : take at others ≡ take at rows = ap (take at) e ∙ take_at (take at rows) (drop (suc at) rows) at short in
-    let back : drop at others ≡ drop (suc at) rows = ap (drop at) e ∙ drop_at (take at rows) (drop (suc at) rows) at short in
-    ap (λ fs. entries_of (fs ++ r ∷ drop at others)) front
-    ∙ ap (λ bs. entries_of (take at rows ++ r ∷ bs)) back
+    ap entries_of (set_split rows at r lt)
     ∙ map-append entry (take at rows) (r ∷ drop (suc at) rows)
     ∙ ap (λ p. entries_of (take at rows) ++ (p ∷ entries_of (drop (suc at) rows))) new
     ∙ ap (λ es. entries_of (take at rows) ++ es) (sym (put_there k v rows at lt equal))
     ∙ sym (split_put k v rows at (omega arith) below)
+
+-- the same, for what a slice of the rows writes back
+pub there_again : {K : ℕ} (k v : List ℕ) (rows lent : List (Record K)) (at : ℕ) (d r : Record K) → lent ≡ rows → r.key.at ≡ (get_or lent at d).key.at → r.value ≡ v → at < length rows → Below k rows at → ((e : Record K) → key_cmp k (get_or rows at e).key.at ≡ Equal)
+    → entries_of (refill (length rows) rows (set lent at r)) ≡ put key_cmp k v (entries_of rows)
+there_again {K} k v rows lent at d r e ek ev lt below equal =
+    let key : r.key.at ≡ k = ek ∙ ap (λ (xs : List (Record K)). (get_or xs at d).key.at) e ∙ sym (one_key k (get_or rows at d).key.at (equal d)) in
+    let long : length (set lent at r) ≡ length rows = length-set lent at r ∙ ap length e in
+    let none : drop (length (set lent at r)) rows ≡ [] = drop_all (length (set lent at r)) rows (omega (arith, long)) in
+    let whole : refill (length rows) rows (set lent at r) ≡ set lent at r =
+    ap (λ (xs : List (Record K)). take (length rows) (set lent at r ++ xs)) none ∙ take_at (set lent at r) [] (length rows) long in
+    ap entries_of (whole ∙ ap (λ (xs : List (Record K)). set xs at r) e) ∙ there k v rows at r key ev lt below equal
 
 split_find : {K : ℕ} (k : List ℕ) (rows : List (Record K)) (at : ℕ) → at ≤ length rows → Below k rows at → find key_cmp k (entries_of rows) ≡ find key_cmp k (entries_of (drop at rows))
 split_find k rows at le below =
@@ -105,8 +113,8 @@ stands {K} k rows i r lt is passed same =
       inside = lt;
       key = λ d. ap (λ (s : Record K). s.key.at) (here d) ∙ sym (one_key k r.key.at equal);
       value = λ d.
-        let e : drop i rows ≡ r ∷ drop (i + 1) rows = drop_more rows i d lt ∙ ap (λ (s : Record K). s ∷ drop (i + 1) rows) (here d) in
-        sym passed ∙ ap (λ xs. find key_cmp k (entries_of xs)) e ∙ rw equal (ap (λ (s : Record K). Some s.value) (sym (here d)));
+          let e : drop i rows ≡ r ∷ drop (i + 1) rows = drop_more rows i d lt ∙ ap (λ (s : Record K). s ∷ drop (i + 1) rows) (here d) in
+          sym passed ∙ ap (λ xs. find key_cmp k (entries_of xs)) e ∙ rw equal (ap (λ (s : Record K). Some s.value) (sym (here d)));
     }
 
 -- there is room where a key is new that may be put

@@ -5,5 +5,4 @@ ghost use Rattle.bucket_page.specs.Laws.{SpellsOne, MakesTable};
 pub fn spelling_law<const K: usize>()
     ensures one { SpellsOne K }
     ensures table { MakesTable K }
-{
-}
+{}

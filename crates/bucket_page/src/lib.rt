@@ -2,8 +2,8 @@
 #![tactic(auto)]
 
 mod bucket;
-mod laws;
 mod lawful;
+mod laws;
 mod place;
 mod reading;
 mod table;
@@ -14,5 +14,5 @@ pub use laws::spelling_law;
 pub use reading::decode;
 pub use writing::encode;
 
-
-
+#[cfg(test)]
+mod tests;

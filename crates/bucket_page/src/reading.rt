@@ -12,7 +12,11 @@ use grid_types::{Data, Key, Record, Region};
 use page_fields::{get_corner, get_u16, get_u32};
 
 /// Reads the records of a page into `rows`, up to one whose data has no lawful length.
-fn read_rows<const K: usize>(page: &[u8; 4096], count: usize, rows: &mut ArrayVec<Record<K>, 49>) -> bool
+fn read_rows<const K: usize>(
+    page: &[u8; 4096],
+    count: usize,
+    rows: &mut ArrayVec<Record<K>, 49>,
+) -> bool
     requires many { count ≤ 48 }
     requires few { K ≤ 4 }
     requires empty { rows.old.items ≡ [] }
@@ -30,7 +34,9 @@ fn read_rows<const K: usize>(page: &[u8; 4096], count: usize, rows: &mut ArrayVe
             return false;
         };
         rows.push(Record {
-            key: Key { at: get_corner(page, at) },
+            key: Key {
+                at: get_corner(page, at),
+            },
             value,
         });
     }

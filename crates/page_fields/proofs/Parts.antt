@@ -41,5 +41,5 @@ replaced_more at next page now new a b e f is le =
     let split : now ≡ (take at page ++ a) ++ drop (at + length a) page = e ∙ sym (append_assoc (take at page) a (drop (at + length a) page)) in
     let whole : drop next now ≡ drop (at + length a) page = ap (drop next) split ∙ drop_at (take at page ++ a) (drop (at + length a) page) next (length-append (take at page) a ∙ omega arith) in
     let back : drop (next + length b) now ≡ drop (at + length (a ++ b)) page =
-        sym (drop-drop (length b) next now) ∙ ap (drop (length b)) whole ∙ drop-drop (length b) (at + length a) page ∙ ap (λ (k : ℕ). drop k page) (omega (arith, length-append a b)) in
+    sym (drop-drop (length b) next now) ∙ ap (drop (length b)) whole ∙ drop-drop (length b) (at + length a) page ∙ ap (λ (k : ℕ). drop k page) (omega (arith, length-append a b)) in
     f ∙ rw (front, back) (simp append_assoc)

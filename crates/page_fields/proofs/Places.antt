@@ -1,5 +1,5 @@
 -- What stands at an offset of a page that is an append of fields.
-use Rattle.std.proofs.Common.{◌≡◌, ◌<◌, ◌≤◌, ◌+◌, ◌-◌, ◌*◌, ◌^◌, ℕ, zero, suc, List, [], ◌∷◌, ◌++◌, length, drop, get_or, slice_index, replicate, refl, sym, ap, ◌∙◌, append_assoc, arith}
+use Rattle.std.proofs.Common.{◌≡◌, ◌<◌, ◌+◌, ◌-◌, ◌*◌, ◌^◌, ℕ, zero, suc, List, [], ◌∷◌, ◌++◌, length, drop, get_or, slice_index, replicate, sym, ap, ◌∙◌, append_assoc, arith}
 use Rattle.std.specs.List.{flat_map}
 use Rattle.std.proofs.lemmas.List.{drop-drop, drop_at, get_or-drop, same_lists, get_or_default}
 use Rattle.page_fields.specs.Fields.{number, bytes_of}
@@ -36,11 +36,11 @@ corner_there K page at xs r e count in_range = record {
   count = count;
   in_range = in_range;
   each = λ a h.
-    let zs : List ℕ = replicate (32 - length (numbers xs)) 0 in
-    let whole : drop at page ≡ flat_map (bytes_of 8) xs ++ (zs ++ r) = e ∙ append_assoc (flat_map (bytes_of 8) xs) zs r in
-    let p = part_at (bytes_of 8) 8 xs (zs ++ r) a 0 (λ i g. length-bytes_of 8 (get_or xs i 0)) (omega (arith, count, h)) in
-    let there : drop (at + 8 * a) page ≡ bytes_of 8 (get_or xs a 0) ++ p.0 = sym (drop-drop (8 * a) at page) ∙ ap (drop (8 * a)) whole ∙ p.1 in
-    sym (ap (number 8) there ∙ number-back 8 (get_or xs a 0) p.0 (in_range a));
+      let zs : List ℕ = replicate (32 - length (numbers xs)) 0 in
+      let whole : drop at page ≡ flat_map (bytes_of 8) xs ++ (zs ++ r) = e ∙ append_assoc (flat_map (bytes_of 8) xs) zs r in
+      let p = part_at (bytes_of 8) 8 xs (zs ++ r) a 0 (λ i g. length-bytes_of 8 (get_or xs i 0)) (omega (arith, count, h)) in
+      let there : drop (at + 8 * a) page ≡ bytes_of 8 (get_or xs a 0) ++ p.0 = sym (drop-drop (8 * a) at page) ∙ ap (drop (8 * a)) whole ∙ p.1 in
+      sym (ap (number 8) there ∙ number-back 8 (get_or xs a 0) p.0 (in_range a));
 }
 
 -- at one offset stands one corner

@@ -1,7 +1,7 @@
 -- Parts of a page that are zeros.
 use Rattle.std.proofs.Common.{◌≡◌, ◌≤◌, ◌<◌, ◌+◌, ◌-◌, ℕ, List, length, take, drop, get_or, sym, ap, ◌∙◌, arith}
-use Rattle.std.specs.Prelude.{replicate, slice_index}
-use Rattle.std.proofs.lemmas.List.{get_or-take, get_or-drop, get_or-replicate, same_lists, get_or_default, length-take, length-drop, length-take-le, length-replicate}
+use Rattle.std.specs.Prelude.{replicate}
+use Rattle.std.proofs.lemmas.List.{get_or-take, get_or-drop, get_or-replicate, same_lists, get_or_default, length-drop, length-take-le, length-replicate}
 use Rattle.page_fields.specs.Fields.{AreZeros}
 
 -- a number of the part

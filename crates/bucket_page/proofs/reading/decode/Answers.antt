@@ -1,4 +1,4 @@
-use Rattle.std.proofs.Common.{◌≡◌, ◌<◌, ◌∙◌, length, refl, ap, sym, subst, arith, [], List, ℕ}
+use Rattle.std.proofs.Common.{◌<◌, ◌∙◌, length, refl, ap, sym, subst, arith, []}
 use Rattle.std.proofs.lemmas.Bool.{false≢true}
 use Rattle.grid_types.specs.declared.update.Record.{Record}
 use Rattle.bucket_page.specs.declared.bucket.Bucket.{Bucket}
@@ -27,7 +27,13 @@ returns-then-is_spelled-clause-found g c =
     let yes = c.if-is_spelled.true in
     let b : Bucket g.row.K = record { number = c.get_u32.result; turn = _; region = record { lo = c.get_corner.result; hi = c.get_corner-2.result }; rows = c.read_rows.new.rows } in
     let read : BucketAt g.row.K c.args.page.now b = record {
-      number_is = c.get_u32.ensures; in_range = omega arith; turn = refl; lo = c.get_corner.ensures; hi = c.get_corner-2.ensures; count = c.read_rows.ensures.count ok ∙ c.get_u16-count.ensures; rows = c.read_rows.ensures.found ok;
+      number_is = c.get_u32.ensures;
+      in_range = omega arith;
+      turn = refl;
+      lo = c.get_corner.ensures;
+      hi = c.get_corner-2.ensures;
+      count = c.read_rows.ensures.count ok ∙ c.get_u16-count.ensures;
+      rows = c.read_rows.ensures.found ok;
     } in
     record {
       lawful = made g.row.K c.args.capacity c.args.page.now b read (omega (arith, c.read_rows.ensures.count ok, c.if-count-capacity.false)) (c.is_spelled.ensures.lawful yes);
@@ -39,7 +45,13 @@ returns-then-is_spelled-clause-only g c = λ b s.
     let ok = c.if-not-read_rows.false in
     let there = bucket_there g.row.K c.args.capacity c.args.page.now b c.requires.few c.requires.lawful s.lawful s.bytes in
     one_bucket g.row.K c.args.page.now b _ there (record {
-      number_is = c.get_u32.ensures; in_range = omega arith; turn = refl; lo = c.get_corner.ensures; hi = c.get_corner-2.ensures; count = c.read_rows.ensures.count ok ∙ c.get_u16-count.ensures; rows = c.read_rows.ensures.found ok;
+      number_is = c.get_u32.ensures;
+      in_range = omega arith;
+      turn = refl;
+      lo = c.get_corner.ensures;
+      hi = c.get_corner-2.ensures;
+      count = c.read_rows.ensures.count ok ∙ c.get_u16-count.ensures;
+      rows = c.read_rows.ensures.found ok;
     })
 
 pub returns-else-is_spelled-clause-none : goal.returns-else-is_spelled-clause-none
@@ -47,7 +59,13 @@ returns-else-is_spelled-clause-none g c = λ b s.
     let ok = c.if-not-read_rows.false in
     let there = bucket_there g.row.K c.args.capacity c.args.page.now b c.requires.few c.requires.lawful s.lawful s.bytes in
     let same = one_bucket g.row.K c.args.page.now b _ there (record {
-      number_is = c.get_u32.ensures; in_range = omega arith; turn = refl; lo = c.get_corner.ensures; hi = c.get_corner-2.ensures; count = c.read_rows.ensures.count ok ∙ c.get_u16-count.ensures; rows = c.read_rows.ensures.found ok;
+      number_is = c.get_u32.ensures;
+      in_range = omega arith;
+      turn = refl;
+      lo = c.get_corner.ensures;
+      hi = c.get_corner-2.ensures;
+      count = c.read_rows.ensures.count ok ∙ c.get_u16-count.ensures;
+      rows = c.read_rows.ensures.found ok;
     }) in
     let yes = c.is_spelled.ensures.all (subst IsLawful (sym same) (lawful_of g.row.K c.args.capacity b s.lawful)) (s.bytes ∙ ap (spelling g.row.K) (sym same)) in
     false≢true (sym c.if-is_spelled.false ∙ yes)

@@ -1,6 +1,6 @@
 use Rattle.std.proofs.Common.{◌≡◌, ◌∙◌, ◌+◌, ◌-◌, ◌*◌, ap, sym, length, arith, take, List, ℕ}
-use Rattle.std.proofs.lemmas.List.{take_all, length-take-le, length-replicate}
-use Rattle.page_fields.specs.Fields.{replaced, bytes_of}
+use Rattle.std.proofs.lemmas.List.{take_all, length-take-le}
+use Rattle.page_fields.specs.Fields.{replaced}
 use Rattle.page_fields.specs.Padded.{numbers, padded}
 use Rattle.page_fields.proofs.BytesOf.{numbers_none, numbers_more, padded_is, length-numbers, length-padded}
 use Rattle.page_fields.proofs.Parts.{replaced_none, replaced_more, front_of}
