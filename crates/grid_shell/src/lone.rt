@@ -21,7 +21,7 @@ pub const WORN: u64 = 1 << 62;
 
 /// One client over one bucket, which lies on page 0 of a disk and is rewritten in place. Each call reads the page anew.
 #[derive(Drop)]
-pub struct Lone<const K: usize, D: Disk> {
+pub struct Lone<D: Disk> {
     pub disk: D,
     pub capacity: u16,
     /// How many updates were made.
@@ -29,7 +29,6 @@ pub struct Lone<const K: usize, D: Disk> {
     page: [u8; 4096],
     ghost has_page: { 4096 ≤ D.extent disk },
     ghost lawful: { capacity ≤ 48 },
-    ghost few: { K ≤ 4 },
 }
 
 /// Why a disk was not begun, with that disk.
@@ -81,9 +80,9 @@ fn put_within<const K: usize>(
     Some(bucket.with(row))
 }
 
-impl<const K: usize, D: Disk> Lone<K, D> {
+impl<D: Disk> Lone<D> {
     /// Writes the page of an empty bucket of the whole region on page 0.
-    pub fn begin(disk: D, capacity: u16) -> Result<Lone<K, D>, OpenFault<D>>
+    pub fn begin<const K: usize>(disk: D, capacity: u16) -> Result<Lone<D>, OpenFault<D>>
         requires few { K ≤ 4 }
         requires some { 1 ≤ K }
         requires lawful { capacity ≤ 48 }
@@ -117,11 +116,12 @@ impl<const K: usize, D: Disk> Lone<K, D> {
     }
 
     /// Reads page 0 once, and judges its bytes: they have to spell bucket 0, with a region that has the key.
-    fn bucket_of<L: Ledger>(
+    fn bucket_of<const K: usize, L: Ledger>(
         &mut self,
         key: &Key<K>,
         steps: &mut Steps<L>,
     ) -> Result<Bucket<K>, Refusal>
+        requires { K ≤ 4 }
         ensures ticks { steps.new ≡ steps.old + 1 }
         ensures lawful { IfOk result (λ b. IsBucket K self.old.capacity b) }
         ensures found { IsTrue (D.honest self.old.disk) → IfOk result (λ b. HasBucket K self.old.capacity (D.seen self.old.disk) b × Within b.region.lo b.region.hi key.now.at) }
@@ -152,8 +152,9 @@ impl<const K: usize, D: Disk> Lone<K, D> {
     }
 
     /// Writes the page of a bucket on page 0.
-    fn rewrite(&mut self, bucket: &Bucket<K>) -> Result<(), DiskFailed>
-        requires { length bucket.now.rows.items ≤ self.old.capacity }
+    fn rewrite<const K: usize>(&mut self, bucket: &Bucket<K>) -> Result<(), DiskFailed>
+        requires few { K ≤ 4 }
+        requires fits { length bucket.now.rows.items ≤ self.old.capacity }
         ensures written { IsTrue (D.honest self.old.disk) → OnOk result (page_of 0 (D.seen self.new.disk) ≡ spelling K bucket.now) }
         ensures cause { HasCause (D.write_count self.old.disk) (D.write_count self.new.disk) result }
         ensures other { D.read_count self.old.disk ≤ D.read_count self.new.disk }
@@ -168,11 +169,12 @@ impl<const K: usize, D: Disk> Lone<K, D> {
     }
 
     /// The data at a key, read in one step.
-    pub fn get<L: Ledger>(
+    pub fn get<const K: usize, L: Ledger>(
         &mut self,
         key: &Key<K>,
         steps: &mut Steps<L>,
     ) -> Result<Answer<Option<Data>>, Refusal>
+        requires { K ≤ 4 }
         ensures at { IfOk result (λ a. a.at ≡ self.old.front) }
         ensures value { IsTrue (D.honest self.old.disk) → (t : Table) → StandsFor K self.old.capacity (D.seen self.old.disk) t → IfOk result (λ a. a.value ≡ get t key.now.at) }
         ensures damaged { IsTrue (D.honest self.old.disk) → IsErrOf result (Damaged 0) → (t : Table) → StandsFor K self.old.capacity (D.seen self.old.disk) t → ⊥ }
@@ -195,11 +197,12 @@ impl<const K: usize, D: Disk> Lone<K, D> {
 
     /// Puts a record, read and rewritten in place. A key that the bucket does not take is refused, since nothing divides
     /// it; a refusal other than a failed write leaves the file as it was.
-    pub fn put<L: Ledger>(
+    pub fn put<const K: usize, L: Ledger>(
         &mut self,
         row: &Record<K>,
         steps: &mut Steps<L>,
     ) -> Result<Answer<Option<Data>>, Refusal>
+        requires { K ≤ 4 }
         ensures at { IfOk result (λ a. a.at ≡ self.old.front + 1) }
         ensures value { IsTrue (D.honest self.old.disk) → (t : Table) → StandsFor K self.old.capacity (D.seen self.old.disk) t → IfOk result (λ a. a.value ≡ get t row.now.key.at) }
         ensures taken { IsTrue (D.honest self.old.disk) → (t : Table) → StandsFor K self.old.capacity (D.seen self.old.disk) t → OnOk result (takes self.old.capacity t row.now.key.at ≡ true) }

@@ -5,11 +5,8 @@ ghost use Rattle.grid_model.specs.Text.{text};
 ghost use Rattle.disk_trait.specs.Causes.{HasCause};
 
 use disk_trait::{Sink, SinkFailed, put_all};
-use grid_script::{Text, print_client, print_front, print_reply};
+use grid_script::{LINE, Text, print_client, print_front, print_reply};
 use grid_types::Reply;
-
-/// No line is longer.
-const LINE: usize = 128;
 
 /// Gives the lines to the sink where there is no room for one more.
 fn make_room<O: Sink>(out: &mut O, lines: &mut Text) -> Result<(), SinkFailed>

@@ -39,7 +39,7 @@ const MOST: usize = 16_777_217;
 /// Answers the requests of a script, and prints. Nothing is printed before the last one was answered.
 fn answer_lines<D: Disk, O: Sink, L: Ledger>(
     alloc: Global,
-    lone: &mut Lone<ATTRIBUTES, D>,
+    lone: &mut Lone<D>,
     requests: &[Request<ATTRIBUTES>],
     out: &mut O,
     blank: Blank,

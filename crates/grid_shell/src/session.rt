@@ -26,10 +26,11 @@ fn refused(refusal: Refusal) -> Result<Reply, Refusal>
 
 /// The reply to a get.
 fn reply_to_get<const K: usize, D: Disk, L: Ledger>(
-    lone: &mut Lone<K, D>,
+    lone: &mut Lone<D>,
     key: &Key<K>,
     steps: &mut Steps<L>,
 ) -> Result<Reply, Refusal>
+    requires { K ≤ 4 }
     ensures told { IsTrue (D.honest lone.old.disk) → (s : LoneState) → StandsAt K lone.old.capacity (D.seen lone.old.disk) lone.old.front s → lone.old.front < WORN → IfOk result (λ r. r ≡ answer lone.old.capacity s (ask.Get key.now)) }
     ensures stands { IsTrue (D.honest lone.old.disk) → (s : LoneState) → StandsAt K lone.old.capacity (D.seen lone.old.disk) lone.old.front s → lone.old.front < WORN → OnOk result (StandsAt K lone.old.capacity (D.seen lone.new.disk) lone.new.front (after lone.old.capacity s (ask.Get key.now))) }
     ensures fault { IfErr result (λ e. IsDiskFault e (D.read_count lone.old.disk) (D.read_count lone.new.disk) (D.write_count lone.old.disk) (D.write_count lone.new.disk)) }
@@ -46,10 +47,11 @@ fn reply_to_get<const K: usize, D: Disk, L: Ledger>(
 
 /// The reply to a put.
 fn reply_to_put<const K: usize, D: Disk, L: Ledger>(
-    lone: &mut Lone<K, D>,
+    lone: &mut Lone<D>,
     row: &Record<K>,
     steps: &mut Steps<L>,
 ) -> Result<Reply, Refusal>
+    requires { K ≤ 4 }
     ensures told { IsTrue (D.honest lone.old.disk) → (s : LoneState) → StandsAt K lone.old.capacity (D.seen lone.old.disk) lone.old.front s → lone.old.front < WORN → IfOk result (λ r. r ≡ answer lone.old.capacity s (ask.Put row.now)) }
     ensures stands { IsTrue (D.honest lone.old.disk) → (s : LoneState) → StandsAt K lone.old.capacity (D.seen lone.old.disk) lone.old.front s → lone.old.front < WORN → OnOk result (StandsAt K lone.old.capacity (D.seen lone.new.disk) lone.new.front (after lone.old.capacity s (ask.Put row.now))) }
     ensures fault { IfErr result (λ e. IsDiskFault e (D.read_count lone.old.disk) (D.read_count lone.new.disk) (D.write_count lone.old.disk) (D.write_count lone.new.disk)) }
@@ -66,10 +68,11 @@ fn reply_to_put<const K: usize, D: Disk, L: Ledger>(
 
 /// The reply to a request. A fault of the disk is no reply.
 fn reply_to<const K: usize, D: Disk, L: Ledger>(
-    lone: &mut Lone<K, D>,
+    lone: &mut Lone<D>,
     request: &Request<K>,
     steps: &mut Steps<L>,
 ) -> Result<Reply, Refusal>
+    requires { K ≤ 4 }
     ensures told { IsTrue (D.honest lone.old.disk) → (s : LoneState) → StandsAt K lone.old.capacity (D.seen lone.old.disk) lone.old.front s → lone.old.front < WORN → IfOk result (λ r. r ≡ answer lone.old.capacity s request.now) }
     ensures stands { IsTrue (D.honest lone.old.disk) → (s : LoneState) → StandsAt K lone.old.capacity (D.seen lone.old.disk) lone.old.front s → lone.old.front < WORN → OnOk result (StandsAt K lone.old.capacity (D.seen lone.new.disk) lone.new.front (after lone.old.capacity s request.now)) }
     ensures fault { IfErr result (λ e. IsDiskFault e (D.read_count lone.old.disk) (D.read_count lone.new.disk) (D.write_count lone.old.disk) (D.write_count lone.new.disk)) }
@@ -86,11 +89,12 @@ fn reply_to<const K: usize, D: Disk, L: Ledger>(
 
 /// Answers each request in order, into replies that have room for all. The first fault of the disk ends it.
 pub fn answer_all<const K: usize, D: Disk, L: Ledger>(
-    lone: &mut Lone<K, D>,
+    lone: &mut Lone<D>,
     requests: &[Request<K>],
     replies: &mut Vec<Reply>,
     steps: &mut Steps<L>,
 ) -> Result<(), Refusal>
+    requires few { K ≤ 4 }
     requires empty { replies.old.items ≡ [] }
     requires none { vec_len replies.old ≡ 0 }
     requires room { length requests.now ≤ vec_capacity replies.old }
