@@ -1,6 +1,8 @@
 pub mod Buckets
 pub mod Errors
+pub mod Fronts
 pub mod Lines
+pub mod Outcomes
 pub mod Pairs
 pub mod Pieces
 pub mod Replies

@@ -4,6 +4,8 @@ use Rattle.grid_types.specs.declared.refusal.Refusal.{Refusal}
 use Rattle.grid_types.specs.declared.refusal.Refusal.TheVariants as refusal
 use Rattle.grid_types.specs.declared.request.Reply.{Reply}
 use Rattle.grid_types.specs.declared.request.Reply.TheVariants as reply
+use Rattle.grid_script.specs.declared.script.ScriptFault.{ScriptFault}
+use Rattle.grid_script.specs.declared.script.ScriptFault.TheVariants as fault
 use Rattle.grid_shell.specs.declared.ending.Ending.{Ending}
 use Rattle.grid_shell.specs.declared.ending.Ending.TheVariants.{Done, BadWords, BadScript, Damaged, Device, Memory, Refused}
 
@@ -85,3 +87,8 @@ line_end (reply.Refused why) = refusal_end why
 unfoldable pub worst_of : List Reply → ℕ
 worst_of [] = 0
 worst_of (r ∷ rs) = max (status_of (line_end r)) (worst_of rs)
+
+-- the end that a script which was not read makes
+abbrev pub fault_end : ScriptFault → Ending
+fault_end (fault.Line line) = BadScript line
+fault_end fault.NoMemory = Memory

@@ -3,6 +3,7 @@ use Rattle.std.specs.Prelude.{◌≡◌, ◌⊎◌, ◌++◌, ◌∷◌, [], ℕ
 use Rattle.grid_types.specs.declared.request.Request.{Request}
 use Rattle.grid_model.specs.Tables.{Table}
 use Rattle.grid_model.specs.OneBucket.{empty, answers, afterwards}
+use Rattle.grid_model.specs.Script.{IsFault}
 use Rattle.grid_model.specs.Text.{text}
 use Rattle.disk_trait.specs.Causes.{Rose}
 use Rattle.grid_shell.specs.Endings.{worst_of}
@@ -26,3 +27,8 @@ pub record IsAnswered {K : ℕ} (capacity : ℕ) (requests : List (Request K)) (
 abbrev pub OneRose : List (ℕ × ℕ) → Type 0
 OneRose [] = ⊥
 OneRose (c ∷ cs) = Rose c.0 c.1 ⊎ OneRose cs
+
+-- a text has a fault at some line
+pub record HasFault (K : ℕ) (bytes : List ℕ) : Type 0 where
+  pub line : ℕ
+  pub fault : IsFault K bytes line

@@ -1,7 +1,8 @@
 //! How a run ends.
 ghost use Rattle.std.specs.Prelude.{◌≡◌, max};
-ghost use Rattle.grid_shell.specs.Endings.{status_of, with_fault_of, refusal_end, line_end, worst_of, IsLineEnd, HasBegun};
+ghost use Rattle.grid_shell.specs.Endings.{status_of, with_fault_of, refusal_end, fault_end, line_end, worst_of, IsLineEnd, HasBegun};
 
+use grid_script::ScriptFault;
 use grid_types::{Refusal, Reply};
 
 /// How a run ends. Each end has a status of its own, and later ones have greater statuses.
@@ -36,6 +37,16 @@ impl Ending {
             Ending::Device => 5,
             Ending::Memory => 6,
             Ending::Refused => 7,
+        }
+    }
+
+    /// The end of a run whose script was not read.
+    pub fn of_fault(fault: ScriptFault) -> Ending
+        ensures { result ≡ fault_end fault }
+    {
+        match fault {
+            ScriptFault::Line(line) => Ending::BadScript { line },
+            ScriptFault::NoMemory => Ending::Memory,
         }
     }
 

@@ -244,4 +244,11 @@ impl<D: Disk> Lone<D> {
             value,
         })
     }
+
+    /// Gives the disk back.
+    pub fn into_disk(self) -> D
+        ensures { result ≡ self.disk }
+    {
+        self.disk
+    }
 }

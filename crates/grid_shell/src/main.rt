@@ -10,4 +10,48 @@ mod run;
 mod session;
 mod telling;
 
-fn main() {}
+use disk_file::{FileBay, StreamSink, StreamSource};
+use disk_trait::Sink;
+use ending::Ending;
+use grid_types::Words;
+use run::run_grid;
+use std::env;
+use std::io::ErrorKind;
+use std::process::ExitCode;
+use std::rt::Env;
+use telling::tell;
+
+/// The words of the command line behind the program's name. A word that is no text is none of the written forms.
+fn words_of<R: Env + AllocGlobal>(rt: &R) -> Result<Words, Ending> {
+    let given = match env::args(rt) {
+        Ok(given) => given,
+        Err(error) if error.kind() == ErrorKind::OutOfMemory => return Err(Ending::Memory),
+        Err(_) => return Err(Ending::BadWords),
+    };
+    let mut words = Words::new(rt.alloc());
+    for word in given.skip(1) {
+        match words.add(rt.alloc(), word.as_str()) {
+            Ok(()) => {}
+            Err(_) => return Err(Ending::Memory),
+        }
+    }
+    Ok(words)
+}
+
+/// Ends before there are words to run.
+fn refuse<E: Sink>(err: &mut E, ending: Ending) -> u8 {
+    let _ = tell(err, ending);
+    ending.status()
+}
+
+fn main(rt: HostRuntime) -> ExitCode {
+    let mut bay = FileBay::new(rt);
+    let mut input = StreamSource::new(rt.stdin());
+    let mut out = StreamSink::new(rt.stdout());
+    let mut err = StreamSink::new(rt.stderr());
+    let status = match words_of(&rt) {
+        Ok(words) => run_grid(&rt, &words, &mut bay, &mut input, &mut out, &mut err),
+        Err(ending) => refuse(&mut err, ending),
+    };
+    ExitCode::from(status)
+}

@@ -1,0 +1,43 @@
+-- How a run may end: for want of memory, by a count that rose, or answered.
+use Rattle.std.proofs.Common.{◌≡◌, ◌⊎◌, ◌∷◌, [], inl, inr, ℕ, refl, sym, ap, ◌∙◌, arith}
+use Rattle.grid_script.specs.declared.script.ScriptFault.{ScriptFault}
+use Rattle.grid_script.specs.declared.script.ScriptFault.TheVariants as fault
+use Rattle.grid_shell.specs.declared.ending.Ending.{Ending}
+use Rattle.grid_shell.specs.declared.ending.Ending.TheVariants.{Done, BadWords, BadScript, Damaged, Device, Memory, Refused}
+use Rattle.grid_shell.specs.Endings.{fault_end, status_of}
+use Rattle.grid_shell.specs.Runs.{OneRose}
+
+pub outcome : {M F G A B : Type 0} → (F → G) → (A → B) → M ⊎ (F ⊎ A) → M ⊎ (G ⊎ B)
+outcome f a (inl memory) = inl memory
+outcome f a (inr (inl fault)) = inr (inl (f fault))
+outcome f a (inr (inr answered)) = inr (inr (a answered))
+
+-- one more count may have risen
+pub with_third : (a b c d : ℕ × ℕ) → OneRose (a ∷ b ∷ d ∷ []) → OneRose (a ∷ b ∷ c ∷ d ∷ [])
+with_third a b c d (inl rose) = inl rose
+with_third a b c d (inr (inl rose)) = inr (inl rose)
+with_third a b c d (inr (inr (inl rose))) = inr (inr (inr (inl rose)))
+with_third a b c d (inr (inr (inr none))) = absurd none
+
+-- which fault it was
+pub line_of_end : (f : ScriptFault) (n : ℕ) → fault_end f ≡ BadScript n → f ≡ fault.Line n
+line_of_end (fault.Line m) n e = let same : m ≡ n = cc in ap fault.Line same
+line_of_end fault.NoMemory n e = cc
+
+-- a script without a fault is not read only for want of memory
+pub memory_of_end : (f : ScriptFault) → ((n : ℕ) → f ≡ fault.Line n → ⊥) → fault_end f ≡ Memory
+memory_of_end (fault.Line n) none = absurd (none n refl)
+memory_of_end fault.NoMemory none = refl
+
+-- status 3 is that of a faulty script
+pub status_three : (e : Ending) → status_of e ≡ 3 → (n : ℕ) × (e ≡ BadScript n)
+status_three Done h = absurd (omega (arith, h))
+status_three BadWords h = absurd (omega (arith, h))
+status_three (BadScript m) h = (m, refl)
+status_three Damaged h = absurd (omega (arith, h))
+status_three Device h = absurd (omega (arith, h))
+status_three Memory h = absurd (omega (arith, h))
+status_three Refused h = absurd (omega (arith, h))
+
+pub words_are_no_script : (e : Ending) (n : ℕ) → e ≡ BadWords → e ≡ BadScript n → ⊥
+words_are_no_script e n w s = let same : BadWords ≡ BadScript n = sym w ∙ s in cc
