@@ -9,6 +9,8 @@ mod printing;
 mod run;
 mod session;
 mod telling;
+#[cfg(test)]
+mod tests;
 
 use disk_file::{FileBay, StreamSink, StreamSource};
 use disk_trait::Sink;
