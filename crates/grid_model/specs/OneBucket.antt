@@ -1,6 +1,5 @@
 -- What a lone caller is told whose table lies in one bucket, which nothing divides.
 use Rattle.std.specs.Prelude.{ℕ, ◌+◌, List, [], ◌∷◌, Bool, ◌||◌, is_some, nat_lt, if◌then◌else◌, length}
-use Rattle.grid_types.specs.declared.update.Record.{Record}
 use Rattle.grid_types.specs.declared.refusal.Refusal.TheVariants.{NoCut}
 use Rattle.grid_types.specs.declared.request.Request.{Request}
 use Rattle.grid_types.specs.declared.request.Request.TheVariants as ask

@@ -6,5 +6,4 @@ ghost use Rattle.grid_model.specs.Laws.{IsFiniteMap};
 /// The law of tables.
 pub fn table_law<const K: usize>()
     ensures { IsFiniteMap K }
-{
-}
+{}

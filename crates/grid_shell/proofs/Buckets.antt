@@ -1,13 +1,13 @@
 -- The page of the one bucket, new and after a put.
-use Rattle.std.proofs.Common.{◌≡◌, ◌<◌, ◌≤◌, ◌^◌, ℕ, zero, suc, List, [], length, replicate, slice_index, get_or, lit<, refl, sym, ap, subst, ◌∙◌, arith}
+use Rattle.std.proofs.Common.{◌≡◌, ◌<◌, ◌≤◌, ◌^◌, ℕ, zero, suc, List, [], length, replicate, slice_index, lit<, refl, sym, ap, subst, ◌∙◌, arith}
 use Rattle.std.proofs.lemmas.List.{length-replicate}
 use Rattle.grid_types.specs.Keys.{IsKey}
 use Rattle.grid_types.specs.Regions.{Within}
 use Rattle.grid_model.specs.Tables.{Table, with_data, entries_of}
 use Rattle.disk_trait.specs.Disk.{page_of}
 use Rattle.bucket_page.specs.declared.bucket.Bucket.{Bucket}
-use Rattle.bucket_page.specs.Spelling.{spelling, IsBucket, Spells}
-use Rattle.grid_shell.specs.Standing.{HasBucket, StandsFor}
+use Rattle.bucket_page.specs.Spelling.{spelling, IsBucket}
+use Rattle.grid_shell.specs.Standing.{StandsFor}
 
 replicated_in_range : (n x a : ℕ) → x < 2 ^ 64 → slice_index (replicate n x) a < 2 ^ 64
 replicated_in_range zero x a lt = lit< tt

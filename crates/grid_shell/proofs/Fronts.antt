@@ -1,5 +1,5 @@
 -- A script, and the front of the input that is read of it: one byte more than a script may have.
-use Rattle.std.proofs.Common.{◌≡◌, ◌≤◌, ◌<◌, ◌⊎◌, ◌+◌, inl, inr, ℕ, List, length, take, refl, sym, ap, subst, ◌∙◌, arith}
+use Rattle.std.proofs.Common.{◌≡◌, ◌≤◌, ◌<◌, inl, inr, ℕ, List, length, take, sym, subst, arith}
 use Rattle.std.proofs.lemmas.List.{length-take, take_all}
 use Rattle.grid_types.specs.declared.request.Request.{Request}
 use Rattle.grid_model.specs.Script.{longest, IsScript, FirstFault, IsFault}

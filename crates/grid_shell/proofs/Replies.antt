@@ -1,6 +1,5 @@
 -- The replies of a lone caller.
-use Rattle.std.proofs.Common.{◌≡◌, ◌≢◌, ◌⊎◌, ◌<◌, ◌≤◌, ◌+◌, ◌∷◌, [], ℕ, Bool, true, false, List, Option, refl, sym, ap, subst, ◌∙◌, inl, inr, arith}
-use Rattle.disk_trait.specs.Causes.{Rose}
+use Rattle.std.proofs.Common.{◌≡◌, ◌≢◌, ◌⊎◌, ◌<◌, ◌≤◌, ◌+◌, ℕ, true, false, List, Option, refl, sym, ap, subst, ◌∙◌, inl, inr, arith}
 use Rattle.grid_types.specs.declared.answer.Answer.{Answer}
 use Rattle.grid_types.specs.declared.key.Key.{Key}
 use Rattle.grid_types.specs.declared.refusal.Refusal.{Refusal}
@@ -8,9 +7,9 @@ use Rattle.grid_types.specs.declared.refusal.Refusal.TheVariants.{ReadFault, Wri
 use Rattle.grid_types.specs.declared.request.Request.TheVariants as ask
 use Rattle.grid_types.specs.declared.request.Reply.TheVariants as reply
 use Rattle.grid_types.specs.declared.update.Record.{Record}
-use Rattle.grid_model.specs.Tables.{Table, get, with_data}
+use Rattle.grid_model.specs.Tables.{get, with_data}
 use Rattle.grid_model.specs.OneBucket.{Lone, takes, answer, after}
-use Rattle.grid_shell.specs.Standing.{StandsFor, StandsAt, CanRefuse, IsDiskFault}
+use Rattle.grid_shell.specs.Standing.{StandsFor, StandsAt, CanRefuse}
 
 pub got_is : {K : ℕ} (C : ℕ) (s : Lone) (k : Key K) (a : Answer (Option (List ℕ))) → a.at ≡ s.front → a.value ≡ get s.table k.at → reply.Got a ≡ answer C s (ask.Get k)
 unfolding answer

@@ -1,5 +1,5 @@
 -- One request more of a script.
-use Rattle.std.proofs.Common.{◌≡◌, ◌<◌, ◌≤◌, ◌+◌, ◌++◌, ◌∷◌, [], ℕ, List, length, take, get_or, refl, sym, ap, subst, ◌∙◌, inl, inr, arith}
+use Rattle.std.proofs.Common.{◌≡◌, ◌<◌, ◌≤◌, ◌+◌, ◌++◌, ◌∷◌, [], ℕ, List, length, take, get_or, refl, sym, ap, ◌∙◌, inl, inr, arith}
 use Rattle.std.proofs.lemmas.List.{take_more, length-take-le}
 use Rattle.disk_trait.specs.Causes.{Rose}
 use Rattle.grid_types.specs.declared.refusal.Refusal.{Refusal}
@@ -7,7 +7,7 @@ use Rattle.grid_types.specs.declared.request.Request.{Request}
 use Rattle.grid_types.specs.declared.request.Reply.{Reply}
 use Rattle.grid_model.specs.OneBucket.{Lone, answer, after, answers, afterwards}
 use Rattle.grid_model.proofs.AnswerLaws.{answers-push, afterwards-push, front-afterwards}
-use Rattle.grid_shell.specs.Standing.{StandsAt, IsDiskFault}
+use Rattle.grid_shell.specs.Standing.{IsDiskFault}
 
 pub no_answers : {K : ℕ} (C : ℕ) (s : Lone) (rs : List (Request K)) → answers C s (take 0 rs) ≡ []
 unfolding answers

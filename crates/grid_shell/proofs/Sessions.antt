@@ -1,5 +1,5 @@
 -- What a session amounts to when its lines are answered and printed.
-use Rattle.std.proofs.Common.{◌≡◌, ◌++◌, ◌∙◌, ℕ, List, refl, sym, ap, subst, append_assoc}
+use Rattle.std.proofs.Common.{◌≡◌, ◌++◌, ◌∙◌, ℕ, List, ap, append_assoc}
 use Rattle.grid_types.specs.declared.request.Request.{Request}
 use Rattle.grid_types.specs.declared.request.Reply.{Reply}
 use Rattle.grid_model.specs.OneBucket.{empty, answers, afterwards}

@@ -1,5 +1,5 @@
 -- What the file of one bucket stands for.
-use Rattle.std.specs.Prelude.{◌≡◌, ◌⊎◌, ℕ, List, Result}
+use Rattle.std.specs.Prelude.{◌≡◌, ◌⊎◌, ℕ, List}
 use Rattle.grid_types.specs.Keys.{IsKey}
 use Rattle.grid_types.specs.Regions.{Within}
 use Rattle.grid_types.specs.declared.refusal.Refusal.{Refusal}

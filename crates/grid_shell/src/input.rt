@@ -16,7 +16,11 @@ pub enum InputFault {
 const PIECE: usize = 16384;
 
 /// Reads to the end of the input, or until there are that many bytes. Each turn takes at least one byte or is the last.
-pub fn read_all<S: Source>(alloc: Global, source: &mut S, most: usize) -> Result<Vec<u8>, InputFault>
+pub fn read_all<S: Source>(
+    alloc: Global,
+    source: &mut S,
+    most: usize,
+) -> Result<Vec<u8>, InputFault>
     ensures bytes { IsTrue (S.tells source.old) → IfOk result (λ v. v.items ≡ take most (S.left source.old)) }
     ensures bound { IfOk result (λ v. vec_len v ≤ most) }
     ensures later { S.fault_count source.old ≤ S.fault_count source.new }

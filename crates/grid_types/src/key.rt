@@ -40,5 +40,4 @@ impl<const K: usize> Key<K> {
 /// The law of the order of keys: it is total, and two keys of equal rank are one.
 pub fn key_order()
     ensures { OrdersKeys key_cmp }
-{
-}
+{}

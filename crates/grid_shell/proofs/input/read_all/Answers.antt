@@ -1,6 +1,6 @@
 use Rattle.std.proofs.Common.{◌∙◌, ◌≤◌, length, drop, arith}
 use Rattle.std.proofs.lemmas.List.{length-take}
-use Rattle.grid_shell.proofs.Pieces.{length-piece, front_more, rest_more, all_taken, enough_taken}
+use Rattle.grid_shell.proofs.Pieces.{length-piece, front_more, rest_more}
 use Rattle.grid_shell.proofs.input.read_all.Goals as goal
 
 pub pieces-preserved : goal.pieces-preserved

@@ -1,4 +1,4 @@
-use Rattle.std.proofs.Common.{◌∙◌, ◌≡◌, true, sym, arith}
+use Rattle.std.proofs.Common.{◌∙◌, ◌≡◌, true, sym}
 use Rattle.std.proofs.lemmas.List.{length-map}
 use Rattle.grid_model.specs.Tables.{entry, entries_of}
 use Rattle.grid_model.specs.OneBucket.{takes}

@@ -1,4 +1,4 @@
-use Rattle.std.proofs.Common.{◌≡◌, ◌∙◌, sym, ap, length, arith, List, ℕ, ◌++◌}
+use Rattle.std.proofs.Common.{◌≡◌, ◌∙◌, sym, ap, length, arith, ◌++◌}
 use Rattle.std.proofs.lemmas.Result.{on_ok_weaker}
 use Rattle.grid_model.specs.Text.{reply_line}
 use Rattle.grid_shell.proofs.Lines.{lines_more, all_lines, one_more}
@@ -20,6 +20,6 @@ returns-clause-printed g c = λ h.
     let told = c.in-Ok-make_room.ensures.tells ∙ c.loop-reply.invariant.tells ∙ h in
     let end : length c.args.replies.now ≡ c.loop-reply.reply-index = omega (arith, c.loop-reply-test.false, c.loop-reply.auto.reply-index-end) in
     let all = one_more _ _ _ _ _ _ _ (c.as_slice.ensures.value ∙ c.print_front.ensures.line)
-        (c.in-Ok-make_room.ensures.kept (c.loop-reply.invariant.tells ∙ h) ∙ c.loop-reply.invariant.printed h)
-        (sym (all_lines c.args.replies.now c.loop-reply.reply-index c.args.front end)) in
+    (c.in-Ok-make_room.ensures.kept (c.loop-reply.invariant.tells ∙ h) ∙ c.loop-reply.invariant.printed h)
+    (sym (all_lines c.args.replies.now c.loop-reply.reply-index c.args.front end)) in
     on_ok_weaker c.put_all.result (λ added. added ∙ all) (c.put_all.ensures.added told)

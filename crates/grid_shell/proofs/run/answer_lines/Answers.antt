@@ -1,8 +1,5 @@
-use Rattle.std.proofs.Common.{◌≡◌, ◌≤◌, ◌+◌, ◌∙◌, ap, sym, length, inr, arith}
-use Rattle.std.specs.Prelude.{List}
-use Rattle.grid_model.specs.OneBucket.{empty, answers}
-use Rattle.grid_model.specs.Text.{text}
-use Rattle.grid_shell.specs.Endings.{worst_of}
+use Rattle.std.proofs.Common.{◌≤◌, ◌+◌, length, inr, arith}
+use Rattle.grid_model.specs.OneBucket.{empty}
 use Rattle.grid_shell.specs.declared.lone.TheConstants.{WORN}
 use Rattle.grid_shell.proofs.Sessions.{session_answered}
 use Rattle.grid_shell.proofs.run.answer_lines.Goals as goal

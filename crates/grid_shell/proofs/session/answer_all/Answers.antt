@@ -1,7 +1,6 @@
-use Rattle.std.proofs.Common.{◌≡◌, ◌<◌, ◌≤◌, ◌∙◌, sym, ap, subst, take, length, get_or, arith, List}
+use Rattle.std.proofs.Common.{◌≡◌, ◌<◌, ◌∙◌, sym, ap, subst, take, length, arith}
 use Rattle.std.proofs.lemmas.List.{take_all}
-use Rattle.grid_types.specs.declared.request.Request.{Request}
-use Rattle.grid_model.specs.OneBucket.{Lone, answer, after, answers, afterwards}
+use Rattle.grid_model.specs.OneBucket.{answer, after, answers, afterwards}
 use Rattle.grid_shell.specs.declared.lone.TheConstants.{WORN}
 use Rattle.grid_shell.specs.Standing.{StandsAt}
 use Rattle.grid_shell.proofs.Sequences.{no_answers, at_first, answers_more, afterwards_more, front_below, fault_since}

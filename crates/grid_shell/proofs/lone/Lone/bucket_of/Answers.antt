@@ -16,6 +16,6 @@ returns-then-not-contains-clause-undamaged g c = λ h e t s.
 
 pub returns-clause-found : goal.returns-clause-found
 returns-clause-found g c = λ h. (
-      record { spelled = subst (λ p. Spells g.row.K c.args.self.now.capacity p c.in-Some.bucket) (c.in-Ok.ensures.bytes h) c.in-Some.ensures.found; zero = c.if-bucket-ne0.false },
-      c.contains.ensures.within.0 c.if-not-contains.false,
-    )
+  record { spelled = subst (λ p. Spells g.row.K c.args.self.now.capacity p c.in-Some.bucket) (c.in-Ok.ensures.bytes h) c.in-Some.ensures.found; zero = c.if-bucket-ne0.false },
+  c.contains.ensures.within.0 c.if-not-contains.false,
+)
