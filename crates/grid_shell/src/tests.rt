@@ -95,3 +95,35 @@ fn other_input_is_refused(rt: HostRuntime) -> Result<(), Fail> {
     assert!(rt; shows(&rt, &no_words)?);
     Ok(())
 }
+
+/// The status of a run on the file `f` in which one call fails of the bay, the input or the output; 0 is no call.
+fn status_where(
+    rt: &HostRuntime,
+    bay_call: u64,
+    input_call: u64,
+    out_call: u64,
+) -> Result<u8, Fail> {
+    let alloc = rt.alloc();
+    let mut words = Words::new(alloc);
+    for word in RUN {
+        words.add(alloc, word)?;
+    }
+    let mut bay = MemoryBay::new(alloc);
+    let mut input = ByteSource::new(b"put 3,7 6869\n".to_vec(alloc)?);
+    let mut out = ByteSink::new(alloc);
+    let mut err = ByteSink::new(alloc);
+    bay.fail(bay_call)?;
+    input.fail(input_call)?;
+    out.fail(out_call)?;
+    Ok(run_grid(rt, &words, &mut bay, &mut input, &mut out, &mut err))
+}
+
+#[test]
+fn a_failed_device_ends_the_run(rt: HostRuntime) -> Result<(), Fail> {
+    assert_eq!(rt; status_where(&rt, 0, 0, 0)?, 0);
+    assert_eq!(rt; status_where(&rt, 1, 0, 0)?, 5);
+    assert_eq!(rt; status_where(&rt, 2, 0, 0)?, 5);
+    assert_eq!(rt; status_where(&rt, 0, 2, 0)?, 5);
+    assert_eq!(rt; status_where(&rt, 0, 0, 1)?, 5);
+    Ok(())
+}
