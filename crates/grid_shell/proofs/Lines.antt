@@ -1,7 +1,10 @@
 -- The text of a run, line by line.
-use Rattle.std.proofs.Common.{◌≡◌, ◌<◌, ◌+◌, ℕ, List, [], ◌∷◌, ◌++◌, length, take, get_or, refl, sym, ap, ◌∙◌, append_assoc, codes, arith}
+use Rattle.std.proofs.Common.{◌≡◌, ◌<◌, ◌+◌, ℕ, List, [], ◌∷◌, ◌++◌, length, take, get_or, drop, refl, sym, ap, ◌∙◌, append_assoc, codes, subst, arith}
 use Rattle.std.specs.List.{flat_map}
-use Rattle.std.proofs.lemmas.List.{append-nil, flat_map_more, take_more, take_all}
+use Rattle.std.proofs.lemmas.List.{append-nil, flat_map_more, take_more, take_all, take-append-drop}
+use Rattle.std.proofs.lemmas.Grind.{flat_map-append}
+use Rattle.disk_trait.specs.Streams.{Adds}
+use Rattle.grid_shell.proofs.Adding.{adds_longer}
 use Rattle.grid_types.specs.declared.request.Reply.{Reply}
 use Rattle.grid_model.specs.Text.{reply_line, front_line, client_text, text}
 
@@ -37,3 +40,13 @@ one_more sent now before had all line next n e l =
     ∙ ap (λ (xs : List ℕ). xs ++ line) e
     ∙ append_assoc had all line
     ∙ ap (λ (xs : List ℕ). had ++ xs) (sym l)
+
+-- a front of the first lines is one of the whole text
+pub adds_text : (rs : List Reply) (i front : ℕ) (old new : List ℕ) → Adds old new (lines_to rs i) → Adds old new (text rs front)
+adds_text rs i front old new a =
+    let rest = flat_map reply_line (drop i rs) in
+    let lines : lines_to rs i ++ rest ≡ lines_to rs (length rs) =
+    append_assoc (title rs) (flat_map reply_line (take i rs)) rest
+    ∙ ap (λ (xs : List ℕ). title rs ++ xs) (sym (flat_map-append reply_line (take i rs) (drop i rs)) ∙ ap (flat_map reply_line) (take-append-drop i rs ∙ sym (take_all (length rs) rs (omega arith)))) in
+    subst (λ (t : List ℕ). Adds old new t) (ap (λ (xs : List ℕ). xs ++ front_line front) lines ∙ all_lines rs (length rs) front refl)
+    (adds_longer old new (lines_to rs i ++ rest) (front_line front) (adds_longer old new (lines_to rs i) rest a))

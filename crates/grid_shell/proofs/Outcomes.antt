@@ -1,5 +1,6 @@
 -- How a run may end: for want of memory, by a count that rose, or answered.
 use Rattle.std.proofs.Common.{◌≡◌, ◌⊎◌, ◌∷◌, [], inl, inr, ℕ, refl, sym, ap, ◌∙◌, arith}
+use Rattle.std.specs.Prelude.{Result, Ok, Err, OnOk, OnErr}
 use Rattle.grid_script.specs.declared.script.ScriptFault.{ScriptFault}
 use Rattle.grid_script.specs.declared.script.ScriptFault.TheVariants as fault
 use Rattle.grid_shell.specs.declared.ending.Ending.{Ending}
@@ -41,3 +42,8 @@ status_three Refused h = absurd (omega (arith, h))
 
 pub words_are_no_script : (e : Ending) (n : ℕ) → e ≡ BadWords → e ≡ BadScript n → ⊥
 words_are_no_script e n w s = let same : BadWords ≡ BadScript n = sym w ∙ s in cc
+
+-- a call failed, or what it says where it did not holds
+pub failed_or : {T E P Q : Type 0} (r : Result T E) → OnErr r P → OnOk r Q → P ⊎ Q
+failed_or (Ok x) p q = inr q
+failed_or (Err e) p q = inl p

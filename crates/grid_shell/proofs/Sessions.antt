@@ -17,6 +17,11 @@ session_answered C requests had has image front status replies told stands print
   ends = worst ∙ ap worst_of told;
 }
 
+-- the text that is printed is that of the lone caller's answers
+pub session_text : {K : ℕ} (C : ℕ) (requests : List (Request K)) (image : List ℕ) (front : ℕ) (replies : List Reply) → replies ≡ answers C empty requests → StandsAt K C image front (afterwards C empty requests) → text replies front ≡ printed C requests
+unfolding printed
+session_text C requests image front replies told stands = λ i. text (told i) (stands.updates i)
+
 -- three pieces, one after the other
 pub three_pieces : (r0 r1 r2 r3 a b c : List ℕ) → r1 ≡ r0 ++ a → r2 ≡ r1 ++ b → r3 ≡ r2 ++ c → r3 ≡ r0 ++ (a ++ (b ++ c))
 three_pieces r0 r1 r2 r3 a b c e1 e2 e3 = e3 ∙ rw (e2, e1) (simp append_assoc)

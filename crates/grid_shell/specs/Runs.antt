@@ -6,7 +6,9 @@ use Rattle.grid_model.specs.OneBucket.{empty, answers, afterwards}
 use Rattle.grid_model.specs.Script.{IsFault}
 use Rattle.grid_model.specs.Text.{text}
 use Rattle.disk_trait.specs.Causes.{Rose}
-use Rattle.grid_shell.specs.Endings.{worst_of}
+use Rattle.grid_shell.specs.declared.ending.Ending.{Ending}
+use Rattle.grid_shell.specs.declared.ending.Ending.TheVariants.{BadScript}
+use Rattle.grid_shell.specs.Endings.{worst_of, status_of, error_text}
 use Rattle.grid_shell.specs.Standing.{StandsFor}
 
 -- the text of the lone caller's answers to these requests, begun from nothing, and then the front
@@ -32,3 +34,10 @@ OneRose (c ∷ cs) = Rose c.0 c.1 ⊎ OneRose cs
 pub record HasFault (K : ℕ) (bytes : List ℕ) : Type 0 where
   pub line : ℕ
   pub fault : IsFault K bytes line
+
+-- a text tells a status: it is that of an end with this status, and a line that it names has the fault of the input
+pub record IsTold (IsFaulty : ℕ → Type 0) (status : ℕ) (had has : List ℕ) : Type 0 where
+  pub ending : Ending
+  pub ends : status_of ending ≡ status
+  pub line : (n : ℕ) → ending ≡ BadScript n → IsFaulty n
+  pub told : has ≡ had ++ error_text ending

@@ -5,10 +5,11 @@ ghost use Rattle.grid_model.specs.OneBucket.{empty};
 ghost use Rattle.grid_model.specs.Script.{IsScript, IsFault};
 ghost use Rattle.disk_trait.specs.Bay.{Absent, Home, SameBut, Tells};
 ghost use Rattle.disk_trait.specs.Causes.{Rose};
+ghost use Rattle.disk_trait.specs.Streams.{Adds};
 ghost use Rattle.grid_shell.specs.Commands.{IsRun};
 ghost use Rattle.grid_shell.specs.Endings.{status_of, with_fault_of, HasBegun};
 ghost use Rattle.grid_shell.specs.Standing.{StandsAt};
-ghost use Rattle.grid_shell.specs.Runs.{IsAnswered, OneRose, HasFault};
+ghost use Rattle.grid_shell.specs.Runs.{printed, IsAnswered, OneRose, HasFault, IsTold};
 
 use crate::command::file_to_run;
 use crate::ending::Ending;
@@ -51,6 +52,8 @@ fn answer_lines<D: Disk, O: Sink, L: Ledger>(
     ensures answered { IsTrue (D.honest lone.old.disk) → IsTrue (O.tells out.old) → StandsAt ATTRIBUTES lone.old.capacity (D.seen lone.old.disk) lone.old.front empty
         → (result ≡ Ending.Memory) ⊎ (OneRose ((D.read_count lone.old.disk, D.read_count lone.new.disk) ∷ (D.write_count lone.old.disk, D.write_count lone.new.disk) ∷ (O.fault_count out.old, O.fault_count out.new) ∷ [])
         ⊎ IsAnswered lone.old.capacity requests.now (O.received out.old) (O.received out.new) (D.seen lone.new.disk) (status_of result)) }
+    ensures front { IsTrue (D.honest lone.old.disk) → IsTrue (O.tells out.old) → StandsAt ATTRIBUTES lone.old.capacity (D.seen lone.old.disk) lone.old.front empty
+        → Adds (O.received out.old) (O.received out.new) (printed lone.old.capacity requests.now) }
     ensures device { result ≡ Ending.Device → OneRose ((D.read_count lone.old.disk, D.read_count lone.new.disk) ∷ (D.write_count lone.old.disk, D.write_count lone.new.disk) ∷ (O.fault_count out.old, O.fault_count out.new) ∷ []) }
     ensures begun { HasBegun result }
     ensures honest { D.honest lone.new.disk ≡ D.honest lone.old.disk }
@@ -85,6 +88,8 @@ fn run_lines<D: Disk, S: Source, O: Sink>(
         → (requests : List (Request ATTRIBUTES)) → IsScript (S.left input.old) requests
         → (result ≡ Ending.Memory) ⊎ (OneRose ((D.read_count lone.old.disk, D.read_count lone.new.disk) ∷ (D.write_count lone.old.disk, D.write_count lone.new.disk) ∷ (S.fault_count input.old, S.fault_count input.new) ∷ (O.fault_count out.old, O.fault_count out.new) ∷ [])
         ⊎ IsAnswered lone.old.capacity requests (O.received out.old) (O.received out.new) (D.seen lone.new.disk) (status_of result)) }
+    ensures front { IsTrue (D.honest lone.old.disk) → IsTrue (S.tells input.old) → IsTrue (O.tells out.old) → StandsAt ATTRIBUTES lone.old.capacity (D.seen lone.old.disk) lone.old.front empty
+        → (requests : List (Request ATTRIBUTES)) → IsScript (S.left input.old) requests → Adds (O.received out.old) (O.received out.new) (printed lone.old.capacity requests) }
     ensures device { result ≡ Ending.Device → OneRose ((D.read_count lone.old.disk, D.read_count lone.new.disk) ∷ (D.write_count lone.old.disk, D.write_count lone.new.disk) ∷ (S.fault_count input.old, S.fault_count input.new) ∷ (O.fault_count out.old, O.fault_count out.new) ∷ []) }
     ensures script { IsTrue (S.tells input.old) → (n : ℕ) → result ≡ Ending.BadScript n → IsFault ATTRIBUTES (S.left input.old) n }
     ensures quiet { IsTrue (O.tells out.old) → (n : ℕ) → result ≡ Ending.BadScript n → O.received out.new ≡ O.received out.old }
@@ -135,6 +140,8 @@ fn run_file<B: Bay, S: Source, O: Sink>(
         → (requests : List (Request ATTRIBUTES)) → IsScript (S.left input.old) requests
         → (result ≡ Ending.Memory) ⊎ (OneRose ((B.fault_count bay.old, B.fault_count bay.new) ∷ (S.fault_count input.old, S.fault_count input.new) ∷ (O.fault_count out.old, O.fault_count out.new) ∷ [])
         ⊎ Tells (λ d. IsAnswered CAPACITY requests (O.received out.old) (O.received out.new) (B.Disk.seen d) (status_of result)) (B.place bay.new name.now)) }
+    ensures front { IsTrue (B.tells bay.old) → IsTrue (S.tells input.old) → IsTrue (O.tells out.old)
+        → (requests : List (Request ATTRIBUTES)) → IsScript (S.left input.old) requests → Adds (O.received out.old) (O.received out.new) (printed CAPACITY requests) }
     ensures device { result ≡ Ending.Device → (IsTrue (B.tells bay.old) × (B.place bay.old name.now ≢ Absent)) ⊎ OneRose ((B.fault_count bay.old, B.fault_count bay.new) ∷ (S.fault_count input.old, S.fault_count input.new) ∷ (O.fault_count out.old, O.fault_count out.new) ∷ []) }
     ensures script { IsTrue (S.tells input.old) → (n : ℕ) → result ≡ Ending.BadScript n → IsFault ATTRIBUTES (S.left input.old) n }
     ensures quiet { IsTrue (O.tells out.old) → (n : ℕ) → result ≡ Ending.BadScript n → O.received out.new ≡ O.received out.old }
@@ -174,9 +181,16 @@ pub fn run_grid<R: AllocGlobal, B: Bay, S: Source, O: Sink, E: Sink>(
         → (result ≡ 6) ⊎ (OneRose ((B.fault_count bay.old, B.fault_count bay.new) ∷ (S.fault_count input.old, S.fault_count input.new) ∷ (O.fault_count out.old, O.fault_count out.new) ∷ [])
         ⊎ Tells (λ d. IsAnswered CAPACITY requests (O.received out.old) (O.received out.new) (B.Disk.seen d) result) (B.place bay.new name)) }
 
+    // However it ends, the output has received a front of that text and nothing else.
+    ensures front { (name : List ℕ) → IsRun words.now name → IsTrue (B.tells bay.old) → IsTrue (S.tells input.old) → IsTrue (O.tells out.old)
+        → (requests : List (Request ATTRIBUTES)) → IsScript (S.left input.old) requests → Adds (O.received out.old) (O.received out.new) (printed CAPACITY requests) }
+
     ensures words { (result ≡ 2) ↔ ((name : List ℕ) → IsRun words.now name → ⊥) }
     ensures script { IsTrue (S.tells input.old) → result ≡ 3 → HasFault ATTRIBUTES (S.left input.old) }
     ensures quiet { IsTrue (O.tells out.old) → result ≡ 3 → O.received out.new ≡ O.received out.old }
+
+    // What went wrong is told, in the words of that status, unless the error sink failed.
+    ensures told { IsTrue (S.tells input.old) → IsTrue (E.tells err.old) → Rose (E.fault_count err.old) (E.fault_count err.new) ⊎ IsTold (IsFault ATTRIBUTES (S.left input.old)) result (E.received err.old) (E.received err.new) }
 
     // A device failed only where its count rose, or where a bay that tells its names has the file already.
     ensures device { (name : List ℕ) → IsRun words.now name → result ≡ 5 → (IsTrue (B.tells bay.old) × (B.place bay.old name ≢ Absent)) ⊎ OneRose ((B.fault_count bay.old, B.fault_count bay.new) ∷ (S.fault_count input.old, S.fault_count input.new) ∷ (O.fault_count out.old, O.fault_count out.new) ∷ []) }

@@ -1,9 +1,11 @@
-use Rattle.std.proofs.Common.{◌≡◌, ◌∙◌, sym, ap, subst, inl}
+use Rattle.std.proofs.Common.{◌≡◌, ◌∙◌, sym, ap, subst, inl, List}
+use Rattle.disk_trait.specs.Streams.{Adds}
+use Rattle.grid_types.specs.declared.request.Request.{Request}
 use Rattle.grid_model.specs.Script.{IsScript, IsFault}
 use Rattle.grid_script.specs.declared.script.ScriptFault.TheVariants as fault
 use Rattle.grid_script.proofs.Readings.{IsScript-sound}
 use Rattle.grid_shell.specs.Endings.{status_of, fault_end}
-use Rattle.grid_shell.specs.Runs.{IsAnswered}
+use Rattle.grid_shell.specs.Runs.{printed, IsAnswered}
 use Rattle.grid_shell.proofs.Errors.{error_of}
 use Rattle.grid_shell.proofs.Fronts.{script_read, fault_read}
 use Rattle.grid_shell.proofs.Outcomes.{outcome, with_third, line_of_end, memory_of_end}
@@ -26,3 +28,9 @@ returns-clause-script g c = λ ts n e.
 pub returns-clause-answered : goal.returns-clause-answered
 returns-clause-answered g c = λ h ts to at requests s.
     inl (c.of_fault.ensures ∙ memory_of_end c.in-Err.fault (λ n line. IsScript-sound (g.S.Source.left c.args.input.now) requests n s (returns-clause-script g c ts n (c.of_fault.ensures ∙ ap fault_end line))))
+
+pub returns-in-Ok-read_script-clause-front : goal.returns-in-Ok-read_script-clause-front
+returns-in-Ok-read_script-clause-front g c = λ h ts to at requests s.
+    let read = subst (λ bytes. IsScript bytes requests) (sym (c.as_slice.ensures.value ∙ c.in-Ok.ensures.bytes ts)) (script_read (g.S.Source.left c.args.input.now) requests s) in
+    let same : c.requests.result.now ≡ requests = c.requests.ensures ∙ c.in-Ok-read_script.ensures.only requests read in
+    subst (λ (rs : List (Request 2)). Adds (g.O.Sink.received c.args.out.now) (g.O.Sink.received c.answer_lines.new.out) (printed c.args.lone.now.capacity rs)) same (c.answer_lines.ensures.front h to at)
