@@ -5,7 +5,7 @@ use Rattle.grid_script.specs.declared.script.ScriptFault.{ScriptFault}
 use Rattle.grid_script.specs.declared.script.ScriptFault.TheVariants as fault
 use Rattle.grid_shell.specs.declared.ending.Ending.{Ending}
 use Rattle.grid_shell.specs.declared.ending.Ending.TheVariants.{Done, BadWords, BadScript, Damaged, Device, Memory, Refused}
-use Rattle.grid_shell.specs.Endings.{fault_end, status_of}
+use Rattle.grid_shell.specs.Endings.{fault_end, status_of, with_fault_of}
 use Rattle.grid_shell.specs.Runs.{OneRose}
 
 pub outcome : {M F G A B : Type 0} → (F → G) → (A → B) → M ⊎ (F ⊎ A) → M ⊎ (G ⊎ B)
@@ -47,3 +47,27 @@ words_are_no_script e n w s = let same : BadWords ≡ BadScript n = sym w ∙ s 
 pub failed_or : {T E P Q : Type 0} (r : Result T E) → OnErr r P → OnOk r Q → P ⊎ Q
 failed_or (Ok x) p q = inr q
 failed_or (Err e) p q = inl p
+
+-- a run that ends well has no fault
+pub fault_is_not_done : (e : Ending) → with_fault_of e ≡ Done → ⊥
+fault_is_not_done Done h = cc
+fault_is_not_done BadWords h = cc
+fault_is_not_done (BadScript n) h = cc
+fault_is_not_done Damaged h = cc
+fault_is_not_done Device h = cc
+fault_is_not_done Memory h = cc
+fault_is_not_done Refused h = cc
+
+pub unread_is_not_done : (f : ScriptFault) → fault_end f ≡ Done → ⊥
+unread_is_not_done (fault.Line n) h = cc
+unread_is_not_done fault.NoMemory h = cc
+
+-- status 0 is that of a run that ends well
+pub status_zero : (e : Ending) → status_of e ≡ 0 → e ≡ Done
+status_zero Done h = refl
+status_zero BadWords h = absurd (omega (arith, h))
+status_zero (BadScript m) h = absurd (omega (arith, h))
+status_zero Damaged h = absurd (omega (arith, h))
+status_zero Device h = absurd (omega (arith, h))
+status_zero Memory h = absurd (omega (arith, h))
+status_zero Refused h = absurd (omega (arith, h))

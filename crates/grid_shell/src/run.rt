@@ -52,6 +52,8 @@ fn answer_lines<D: Disk, O: Sink, L: Ledger>(
     ensures answered { IsTrue (D.honest lone.old.disk) → IsTrue (O.tells out.old) → StandsAt ATTRIBUTES lone.old.capacity (D.seen lone.old.disk) lone.old.front empty
         → (result ≡ Ending.Memory) ⊎ (OneRose ((D.read_count lone.old.disk, D.read_count lone.new.disk) ∷ (D.write_count lone.old.disk, D.write_count lone.new.disk) ∷ (O.fault_count out.old, O.fault_count out.new) ∷ [])
         ⊎ IsAnswered lone.old.capacity requests.now (O.received out.old) (O.received out.new) (D.seen lone.new.disk) (status_of result)) }
+    ensures done { result ≡ Ending.Done → IsTrue (D.honest lone.old.disk) → IsTrue (O.tells out.old) → StandsAt ATTRIBUTES lone.old.capacity (D.seen lone.old.disk) lone.old.front empty
+        → IsAnswered lone.old.capacity requests.now (O.received out.old) (O.received out.new) (D.seen lone.new.disk) (status_of result) }
     ensures front { IsTrue (D.honest lone.old.disk) → IsTrue (O.tells out.old) → StandsAt ATTRIBUTES lone.old.capacity (D.seen lone.old.disk) lone.old.front empty
         → Adds (O.received out.old) (O.received out.new) (printed lone.old.capacity requests.now) }
     ensures device { result ≡ Ending.Device → OneRose ((D.read_count lone.old.disk, D.read_count lone.new.disk) ∷ (D.write_count lone.old.disk, D.write_count lone.new.disk) ∷ (O.fault_count out.old, O.fault_count out.new) ∷ []) }
@@ -88,6 +90,8 @@ fn run_lines<D: Disk, S: Source, O: Sink>(
         → (requests : List (Request ATTRIBUTES)) → IsScript (S.left input.old) requests
         → (result ≡ Ending.Memory) ⊎ (OneRose ((D.read_count lone.old.disk, D.read_count lone.new.disk) ∷ (D.write_count lone.old.disk, D.write_count lone.new.disk) ∷ (S.fault_count input.old, S.fault_count input.new) ∷ (O.fault_count out.old, O.fault_count out.new) ∷ [])
         ⊎ IsAnswered lone.old.capacity requests (O.received out.old) (O.received out.new) (D.seen lone.new.disk) (status_of result)) }
+    ensures done { result ≡ Ending.Done → IsTrue (D.honest lone.old.disk) → IsTrue (S.tells input.old) → IsTrue (O.tells out.old) → StandsAt ATTRIBUTES lone.old.capacity (D.seen lone.old.disk) lone.old.front empty
+        → (requests : List (Request ATTRIBUTES)) → IsScript (S.left input.old) requests → IsAnswered lone.old.capacity requests (O.received out.old) (O.received out.new) (D.seen lone.new.disk) (status_of result) }
     ensures front { IsTrue (D.honest lone.old.disk) → IsTrue (S.tells input.old) → IsTrue (O.tells out.old) → StandsAt ATTRIBUTES lone.old.capacity (D.seen lone.old.disk) lone.old.front empty
         → (requests : List (Request ATTRIBUTES)) → IsScript (S.left input.old) requests → Adds (O.received out.old) (O.received out.new) (printed lone.old.capacity requests) }
     ensures device { result ≡ Ending.Device → OneRose ((D.read_count lone.old.disk, D.read_count lone.new.disk) ∷ (D.write_count lone.old.disk, D.write_count lone.new.disk) ∷ (S.fault_count input.old, S.fault_count input.new) ∷ (O.fault_count out.old, O.fault_count out.new) ∷ []) }
@@ -115,6 +119,7 @@ fn run_lines<D: Disk, S: Source, O: Sink>(
 fn put_back<B: Bay>(bay: &mut B, name: &str, disk: B::Disk, ending: Ending) -> Ending
     ensures home { IsTrue (B.tells bay.old) → Rose (B.fault_count bay.old) (B.fault_count bay.new) ⊎ (B.place bay.new name.now ≡ Home disk) }
     ensures ending { Rose (B.fault_count bay.old) (B.fault_count bay.new) ⊎ (result ≡ ending) }
+    ensures done { result ≡ Ending.Done → (ending ≡ Ending.Done) × (IsTrue (B.tells bay.old) → B.place bay.new name.now ≡ Home disk) }
     ensures fault { (result ≡ ending) ⊎ (result ≡ with_fault_of ending) }
     ensures read_failed { B.Disk.read_count disk ≢ 0 → Rose (B.fault_count bay.old) (B.fault_count bay.new) }
     ensures write_failed { B.Disk.write_count disk ≢ 0 → Rose (B.fault_count bay.old) (B.fault_count bay.new) }
@@ -140,6 +145,8 @@ fn run_file<B: Bay, S: Source, O: Sink>(
         → (requests : List (Request ATTRIBUTES)) → IsScript (S.left input.old) requests
         → (result ≡ Ending.Memory) ⊎ (OneRose ((B.fault_count bay.old, B.fault_count bay.new) ∷ (S.fault_count input.old, S.fault_count input.new) ∷ (O.fault_count out.old, O.fault_count out.new) ∷ [])
         ⊎ Tells (λ d. IsAnswered CAPACITY requests (O.received out.old) (O.received out.new) (B.Disk.seen d) (status_of result)) (B.place bay.new name.now)) }
+    ensures done { result ≡ Ending.Done → IsTrue (B.tells bay.old) → IsTrue (S.tells input.old) → IsTrue (O.tells out.old)
+        → (requests : List (Request ATTRIBUTES)) → IsScript (S.left input.old) requests → Tells (λ d. IsAnswered CAPACITY requests (O.received out.old) (O.received out.new) (B.Disk.seen d) (status_of result)) (B.place bay.new name.now) }
     ensures front { IsTrue (B.tells bay.old) → IsTrue (S.tells input.old) → IsTrue (O.tells out.old)
         → (requests : List (Request ATTRIBUTES)) → IsScript (S.left input.old) requests → Adds (O.received out.old) (O.received out.new) (printed CAPACITY requests) }
     ensures device { result ≡ Ending.Device → (IsTrue (B.tells bay.old) × (B.place bay.old name.now ≢ Absent)) ⊎ OneRose ((B.fault_count bay.old, B.fault_count bay.new) ∷ (S.fault_count input.old, S.fault_count input.new) ∷ (O.fault_count out.old, O.fault_count out.new) ∷ []) }
@@ -180,6 +187,10 @@ pub fn run_grid<R: AllocGlobal, B: Bay, S: Source, O: Sink, E: Sink>(
         → (requests : List (Request ATTRIBUTES)) → IsScript (S.left input.old) requests
         → (result ≡ 6) ⊎ (OneRose ((B.fault_count bay.old, B.fault_count bay.new) ∷ (S.fault_count input.old, S.fault_count input.new) ∷ (O.fault_count out.old, O.fault_count out.new) ∷ [])
         ⊎ Tells (λ d. IsAnswered CAPACITY requests (O.received out.old) (O.received out.new) (B.Disk.seen d) result) (B.place bay.new name)) }
+
+    // Status 0 says that the script was answered, its text is out, and the file stands for its table, whatever the counts say.
+    ensures done { result ≡ 0 → (name : List ℕ) → IsRun words.now name → IsTrue (B.tells bay.old) → IsTrue (S.tells input.old) → IsTrue (O.tells out.old)
+        → (requests : List (Request ATTRIBUTES)) → IsScript (S.left input.old) requests → Tells (λ d. IsAnswered CAPACITY requests (O.received out.old) (O.received out.new) (B.Disk.seen d) result) (B.place bay.new name) }
 
     // However it ends, the output has received a front of that text and nothing else.
     ensures front { (name : List ℕ) → IsRun words.now name → IsTrue (B.tells bay.old) → IsTrue (S.tells input.old) → IsTrue (O.tells out.old)
