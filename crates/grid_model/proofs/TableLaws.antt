@@ -7,6 +7,8 @@ use Rattle.std.specs.Cmp.{tied_itself}
 use Rattle.std.specs.Cmp.Lexicographic.{nat_list_cmp_total}
 use Rattle.std.specs.FinMap.{IsAntisymmetric, slice_cmp-IsAntisymmetric, nat_cmp-IsAntisymmetric}
 use Rattle.std.specs.FinMap.Entries.{is_sorted-put, is_sorted-where_key, find-put, find-where_key, same_entries}
+use Rattle.grid_types.specs.declared.key.Key.{Key}
+use Rattle.grid_types.specs.declared.update.Record.{Record}
 use Rattle.grid_types.specs.declared.update.Update.{Update}
 use Rattle.grid_types.specs.declared.update.Update.TheVariants.{Put, Remove}
 use Rattle.grid_types.specs.Keys.{key_cmp}
@@ -58,3 +60,19 @@ pub gone-elsewhere : (t : Table) (k q : List ℕ) → k ≢ q → get (without t
 gone-elsewhere t k q differ =
     find-where_key key_cmp (λ x. not (eq_by_cmp key_cmp k x)) q (alike _ q) t
     ∙ ap (λ b. cond (not b) (get t q) None) (keys_differ k q differ)
+
+pub update-there : {K : ℕ} (t : Table) (r : Record K) → get (effect t (Put r)) r.key.at ≡ Some r.value
+unfolding effect
+update-there t r = put-there t r.key.at r.value
+
+pub update-elsewhere : {K : ℕ} (t : Table) (r : Record K) (q : List ℕ) → q ≢ r.key.at → get (effect t (Put r)) q ≡ get t q
+unfolding effect
+update-elsewhere t r q differ = put-elsewhere t r.key.at r.value q differ
+
+pub removal-there : {K : ℕ} (t : Table) (k : Key K) → get (effect t (Remove k)) k.at ≡ None
+unfolding effect
+removal-there t k = gone-there t k.at
+
+pub removal-elsewhere : {K : ℕ} (t : Table) (k : Key K) (q : List ℕ) → k.at ≢ q → get (effect t (Remove k)) q ≡ get t q
+unfolding effect
+removal-elsewhere t k q differ = gone-elsewhere t k.at q differ
