@@ -1,2 +1,7 @@
 pub mod TableLaws
 pub mod AnswerLaws
+mod Rows
+mod Drawn
+mod Merges
+mod Directed
+mod Grammar

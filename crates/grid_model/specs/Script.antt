@@ -1,9 +1,16 @@
 -- A script: its lines, and what each asks.
-use Rattle.std.specs.Prelude.{◌≡◌, ◌<◌, ◌≤◌, ◌⊎◌, ℕ, ◌-◌, List, [], ◌∷◌, ◌++◌, ◌==◌, if◌then◌else◌, length, take, get_or, codes, decimal, Ok, ⊤}
+use Rattle.std.specs.Prelude.{ℕ, ◌+◌, ◌-◌, ◌*◌, List, [], ◌∷◌, Bool, true, false, ◌&&◌, map, length, nat_lt, nat_le, ◌==◌, if◌then◌else◌, filter, fold, Option, Some, None, Result, Ok, Err, codes, decimal}
+use Rattle.std.specs.Option.{option_map, option_and_then}
+use lib.Pointwise.{pointwise}
 use Rattle.hex.specs.Hex.{decode_of}
+use Rattle.grid_types.specs.declared.query.Side.{Side}
+use Rattle.grid_types.specs.declared.query.Side.TheVariants.{Any, Exactly, Between}
+use Rattle.grid_types.specs.declared.query.Query.{Query}
+use Rattle.grid_types.specs.declared.request.Line.{Line}
 use Rattle.grid_types.specs.declared.request.Request.{Request}
-use Rattle.grid_types.specs.declared.request.Request.TheVariants.{Put, Get}
-use Rattle.grid_types.specs.Keys.{IsKey}
+use Rattle.grid_types.specs.declared.request.Request.TheVariants as ask
+use Rattle.grid_model.specs.Lists.{first_some}
+use Rattle.grid_model.specs.Scales.{top}
 
 -- the first line with a byte in front of it
 abbrev pub onto_first : ℕ → List (List ℕ) → List (List ℕ)
@@ -15,63 +22,173 @@ unfoldable pub lines_of : List ℕ → List (List ℕ)
 lines_of [] = []
 lines_of (b ∷ bs) = if b == 10 then [] ∷ lines_of bs else onto_first b (lines_of bs)
 
--- the text of a key: its numbers in decimal, with a comma between two
-abbrev pub key_text : List ℕ → List ℕ
-key_text [] = []
-key_text (n ∷ []) = decimal n
-key_text (n ∷ m ∷ ns) = decimal n ++ (44 ∷ key_text (m ∷ ns))
+-- the pieces of a text between the bytes c, of which there is one more than of these
+unfoldable pub pieces : ℕ → List ℕ → List (List ℕ)
+pieces c [] = [] ∷ []
+pieces c (b ∷ bs) = if b == c then [] ∷ pieces c bs else onto_first b (pieces c bs)
 
--- 2 to 80 hexadecimal digits, two for each byte, in either case
-pub record IsHex (field bytes : List ℕ) : Type 0 where
-  pub some : 1 ≤ length field
-  pub few : length field ≤ 80
-  pub value : decode_of field ≡ Ok bytes
+-- two texts are the same
+abbrev pub is_text : List ℕ → List ℕ → Bool
+is_text a b = pointwise ◌==◌ a b
 
--- data is written as a dash for no bytes, or as hexadecimal digits
-abbrev pub IsData : List ℕ → List ℕ → Type 0
-IsData field bytes = ((field ≡ codes "-") × (bytes ≡ [])) ⊎ IsHex field bytes
+-- a line without one byte 13 at its end
+abbrev pub without_return : List ℕ → List ℕ
+without_return [] = []
+without_return (b ∷ []) = if b == 13 then [] else b ∷ []
+without_return (b ∷ c ∷ bs) = b ∷ without_return (c ∷ bs)
 
--- a put is written as the word, the key and the data, with one space between two
-pub record IsPutText (K : ℕ) (line key value : List ℕ) : Type 0 where
-  pub hex : List ℕ
-  pub is_key : IsKey K key
-  pub is_data : IsData hex value
-  pub written : line ≡ codes "put " ++ (key_text key ++ (32 ∷ hex))
+-- a word has a byte
+abbrev pub is_word : List ℕ → Bool
+is_word [] = false
+is_word (b ∷ bs) = true
 
--- a get is written as the word and the key, with one space between them
-pub record IsGetText (K : ℕ) (line key : List ℕ) : Type 0 where
-  pub is_key : IsKey K key
-  pub written : line ≡ codes "get " ++ key_text key
+-- the words of a line: what stands between spaces
+abbrev pub words : List ℕ → List (List ℕ)
+words line = filter is_word (pieces 32 (without_return line))
 
--- a line asks a request
-abbrev pub Asks : {K : ℕ} → List ℕ → Request K → Type 0
-Asks {K} line (Put r) = IsPutText K line r.key.at r.value
-Asks {K} line (Get k) = IsGetText K line k.at
+-- the number that digits make
+abbrev pub value : List ℕ → ℕ
+value w = fold (λ n b. n * 10 + (b - 48)) 0 w
 
--- lines ask these requests, each one of them
-abbrev pub AskAll : {K : ℕ} → List (List ℕ) → List (Request K) → Type 0
-AskAll [] [] = ⊤
-AskAll [] (r ∷ rs) = ⊥
-AskAll (line ∷ lines) [] = ⊥
-AskAll (line ∷ lines) (r ∷ rs) = Asks line r × AskAll lines rs
+-- the number that a word is the print of, up to the greatest number of an attribute
+abbrev pub number_of : List ℕ → Option ℕ
+number_of w = if is_text (decimal (value w)) w && nat_le (value w) top then Some (value w) else None
+
+-- all of them, where none is missing
+abbrev pub all_of : {X : Type 0} → List (Option X) → Option (List X)
+all_of [] = Some []
+all_of (None ∷ os) = None
+all_of (Some x ∷ os) = option_map (λ xs. x ∷ xs) (all_of os)
+
+-- the list, where it has K items
+abbrev pub if_count : {X : Type 0} → ℕ → List X → Option (List X)
+if_count K xs = if length xs == K then Some xs else None
+
+-- a key: K numbers with commas between
+abbrev pub key_of : ℕ → List ℕ → Option (List ℕ)
+key_of K w = option_and_then (if_count K) (all_of (map number_of (pieces 44 w)))
+
+-- the value, where there is one
+abbrev pub ok_of : {X E : Type 0} → Result X E → Option X
+ok_of (Ok x) = Some x
+ok_of (Err e) = None
+
+-- data: a dash for no bytes, or 2 to 80 hexadecimal digits, two for each byte, in either case
+abbrev pub data_of : List ℕ → Option (List ℕ)
+data_of w = if is_text w (codes "-") then Some [] else (if nat_le 2 (length w) && nat_le (length w) 80 then ok_of (decode_of w) else None)
+
+-- a side from one number to another that is not below it
+abbrev pub between_of : Option ℕ → Option ℕ → Option Side
+between_of (Some lo) (Some hi) = if nat_le lo hi then Some (Between lo hi) else None
+between_of (Some lo) None = None
+between_of None o = None
+
+-- the pieces of a side between dots: a number, or two with nothing between the dots
+abbrev pub side_of_pieces : List (List ℕ) → Option Side
+side_of_pieces (n ∷ []) = option_map Exactly (number_of n)
+side_of_pieces (lo ∷ [] ∷ hi ∷ []) = between_of (number_of lo) (number_of hi)
+side_of_pieces _ = None
+
+-- a side: a star, a number, or two numbers with two dots between
+abbrev pub side_of : List ℕ → Option Side
+side_of w = if is_text w (codes "*") then Some Any else side_of_pieces (pieces 46 w)
+
+-- a query: K sides with commas between
+abbrev pub query_of : (K : ℕ) → List ℕ → Option (Query K)
+query_of K w = option_map (λ sides. record { sides = sides }) (option_and_then (if_count K) (all_of (map side_of (pieces 44 w))))
+
+-- a put, where there are a key and data
+abbrev pub put_of : {K : ℕ} → Option (List ℕ) → Option (List ℕ) → Option (Request K)
+put_of (Some k) (Some d) = Some (ask.Put (record { key = record { at = k }; value = d }))
+put_of (Some k) None = None
+put_of None o = None
+
+-- a request, if the first word is this command
+abbrev pub if_command : {K : ℕ} → List ℕ → List ℕ → Option (Request K) → Option (Request K)
+if_command w name r = if is_text w name then r else None
+
+-- what a command of one word asks
+abbrev pub alone_of : (K : ℕ) → List ℕ → Option (Request K)
+alone_of K w = first_some (if_command w (codes "stat") (Some ask.Stat) ∷ if_command w (codes "checkpoint") (Some ask.Checkpoint) ∷ [])
+
+-- what a command with one argument asks
+abbrev pub about_of : (K : ℕ) → List ℕ → List ℕ → Option (Request K)
+about_of K w a = first_some (
+    if_command w (codes "get") (option_map (λ k. ask.Get (record { at = k })) (key_of K a))
+    ∷ if_command w (codes "remove") (option_map (λ k. ask.Remove (record { at = k })) (key_of K a))
+    ∷ if_command w (codes "list") (option_map ask.List (query_of K a))
+    ∷ if_command w (codes "count") (option_map ask.Count (query_of K a))
+    ∷ [])
+
+-- what the words of a line ask
+abbrev pub request_of : (K : ℕ) → List (List ℕ) → Option (Request K)
+request_of K (w ∷ []) = alone_of K w
+request_of K (w ∷ a ∷ []) = about_of K w a
+request_of K (w ∷ a ∷ b ∷ []) = if_command w (codes "put") (put_of (key_of K a) (data_of b))
+request_of K _ = None
+
+-- what a line says: nothing, who speaks from here on, a request, or nothing of the grammar
+pub data Meaning (K : ℕ) : Type 0 where
+  Silent : Meaning K
+  Speaks : (client : ℕ) → Meaning K
+  Asks : (request : Request K) → Meaning K
+  Bad : Meaning K
+
+-- a request, or nothing of the grammar
+abbrev pub asks : {K : ℕ} → Option (Request K) → Meaning K
+asks None = Bad
+asks (Some r) = Asks r
+
+-- a client's number is 1 to 16
+abbrev pub speaks : {K : ℕ} → Option ℕ → Meaning K
+speaks None = Bad
+speaks (Some n) = if nat_le 1 n && nat_le n 16 then Speaks n else Bad
+
+-- what a command says
+abbrev pub command : (K : ℕ) → List (List ℕ) → Meaning K
+command K [] = Silent
+command K (w ∷ a ∷ []) = if is_text w (codes "client") then speaks (number_of a) else asks (request_of K (w ∷ a ∷ []))
+command K ws = asks (request_of K ws)
+
+-- a word begins with the byte of a comment
+abbrev pub is_comment : List ℕ → Bool
+is_comment [] = false
+is_comment (b ∷ bs) = b == 35
+
+-- the first word is a comment's
+abbrev pub starts_comment : List (List ℕ) → Bool
+starts_comment [] = false
+starts_comment (w ∷ ws) = is_comment w
+
+-- what words say: a comment says nothing
+abbrev pub says : (K : ℕ) → List (List ℕ) → Meaning K
+says K ws = if starts_comment ws then Silent else command K ws
+
+-- what a line says
+unfoldable pub meaning : (K : ℕ) → List ℕ → Meaning K
+meaning K line = says K (words line)
+
+-- one line more, in front
+abbrev pub also : {K : ℕ} → Line K → Result (List (Line K)) ℕ → Result (List (Line K)) ℕ
+also l (Ok ls) = Ok (l ∷ ls)
+also l (Err e) = Err e
+
+-- the lines that ask something, each with the client that speaks, or the number of the first that is nothing of the grammar
+unfoldable pub asked : {K : ℕ} → ℕ → ℕ → List (Meaning K) → Result (List (Line K)) ℕ
+asked n client [] = Ok []
+asked n client (Silent ∷ ms) = asked (n + 1) client ms
+asked n client (Speaks c ∷ ms) = asked (n + 1) c ms
+asked n client (Asks r ∷ ms) = also (record { client = client; request = r }) (asked (n + 1) client ms)
+asked n client (Bad ∷ ms) = Err n
+
+-- what each line of a text says
+abbrev pub meanings : (K : ℕ) → List ℕ → List (Meaning K)
+meanings K bytes = map (meaning K) (lines_of bytes)
 
 -- a script has at most this many bytes
 unfoldable pub longest : ℕ
 longest = 16777216
 
--- bytes are a script that asks these requests
-pub record IsScript {K : ℕ} (bytes : List ℕ) (requests : List (Request K)) : Type 0 where
-  pub short : length bytes ≤ longest
-  pub asked : AskAll (lines_of bytes) requests
-
--- line n, counted from 1, is the first that asks nothing
-pub record FirstFault (K : ℕ) (bytes : List ℕ) (n : ℕ) : Type 0 where
-  pub some : 1 ≤ n
-  pub there : n ≤ length (lines_of bytes)
-  pub requests : List (Request K)
-  pub asked : AskAll (take (n - 1) (lines_of bytes)) requests
-  pub nothing : (r : Request K) → Asks (get_or (lines_of bytes) (n - 1) []) r → ⊥
-
--- the fault of a text that is no script: line 0 where it has too many bytes, and else its first line that asks nothing
-abbrev pub IsFault : ℕ → List ℕ → ℕ → Type 0
-IsFault K bytes n = ((longest < length bytes) × (n ≡ 0)) ⊎ ((length bytes ≤ longest) × FirstFault K bytes n)
+-- the lines of a script that ask something, or the number of its first fault: 0 where it has too many bytes, else the first line that is nothing of the grammar
+unfoldable pub lines : (K : ℕ) → List ℕ → Result (List (Line K)) ℕ
+lines K bytes = if nat_lt longest (length bytes) then Err 0 else asked 1 1 (meanings K bytes)

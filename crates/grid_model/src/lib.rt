@@ -1,7 +1,7 @@
 //! What the grid file means: definitions in `specs/`, and their laws as the contracts of functions without code.
 #![tactic(auto)]
 
-ghost use Rattle.grid_model.specs.Laws.{IsFiniteMap};
+ghost use Rattle.grid_model.specs.TableLaws.{IsFiniteMap};
 
 /// The law of tables.
 pub fn table_law<const K: usize>()

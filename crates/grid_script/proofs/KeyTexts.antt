@@ -6,7 +6,7 @@ use Rattle.std.proofs.lemmas.Bool.{eqb-true}
 use Rattle.std.proofs.lemmas.Bool.Decides.{nat_tests}
 use Rattle.std.proofs.lemmas.Grind.{common_steps}
 use Rattle.std.proofs.lemmas.Fmt.{decimal_injective}
-use Rattle.grid_model.specs.Script.{key_text}
+use Rattle.grid_model.specs.Text.{key_text}
 use Rattle.grid_script.specs.Fields.{Without, Ends}
 use Rattle.grid_script.proofs.Partings.{one_split, without-decimal, without-append, without-cons}
 

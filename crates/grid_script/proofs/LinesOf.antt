@@ -3,8 +3,9 @@ use Rattle.std.proofs.Common.{◌≡◌, ◌<◌, ◌≤◌, ◌+◌, ◌-◌, �
 use Rattle.std.specs.Prelude.{false}
 use Rattle.std.proofs.lemmas.List.{drop_more, drop_all, take_more, take_all, length-drop}
 use Rattle.std.proofs.lemmas.Bool.Decides.{nat_tests}
-use Rattle.grid_types.specs.declared.request.Request.{Request}
-use Rattle.grid_model.specs.Script.{lines_of, onto_first, Asks, AskAll}
+use Rattle.grid_types.specs.declared.point.PointRequest.{PointRequest}
+use Rattle.grid_model.specs.Script.{lines_of, onto_first}
+use Rattle.grid_model.specs.PointScript.{Asks, AskAll}
 use Rattle.grid_script.specs.Fields.{Without}
 use Rattle.grid_script.proofs.Partings.{same_head, same_tail, without-head, without-tail}
 
@@ -30,14 +31,14 @@ pub lines_of-unended : (line : List ℕ) → 1 ≤ length line → Without 10 li
 lines_of-unended [] some w = absurd (omega (arith, some))
 lines_of-unended (b ∷ line) some w = lines_of-last b line w
 
-pub AskAll-push : {K : ℕ} (lines : List (List ℕ)) (requests : List (Request K)) (line : List ℕ) (r : Request K) → AskAll lines requests → Asks line r → AskAll (lines ++ line ∷ []) (requests ++ r ∷ [])
+pub AskAll-push : {K : ℕ} (lines : List (List ℕ)) (requests : List (PointRequest K)) (line : List ℕ) (r : PointRequest K) → AskAll lines requests → Asks line r → AskAll (lines ++ line ∷ []) (requests ++ r ∷ [])
 AskAll-push [] [] line r all asks = (asks, tt)
 AskAll-push [] (q ∷ requests) line r all asks = absurd all
 AskAll-push (l ∷ lines) [] line r all asks = absurd all
 AskAll-push (l ∷ lines) (q ∷ requests) line r all asks = (all.0, AskAll-push lines requests line r all.1 asks)
 
 -- no line of a script asks nothing
-pub AskAll-each : {K : ℕ} (lines : List (List ℕ)) (requests : List (Request K)) (i : ℕ) → AskAll lines requests → i < length lines → ((r : Request K) → Asks (get_or lines i []) r → ⊥) → ⊥
+pub AskAll-each : {K : ℕ} (lines : List (List ℕ)) (requests : List (PointRequest K)) (i : ℕ) → AskAll lines requests → i < length lines → ((r : PointRequest K) → Asks (get_or lines i []) r → ⊥) → ⊥
 AskAll-each [] requests i all lt none = omega (arith, lt)
 AskAll-each (line ∷ lines) [] i all lt none = all
 AskAll-each (line ∷ lines) (r ∷ requests) zero all lt none = none r all.0
@@ -78,7 +79,7 @@ all_done lines [] i e none = take_all i lines (omega (arith, length-drop i lines
 all_done lines (b ∷ rest) i e none = absurd (omega (arith, none))
 
 -- the lines done and one more line ask the requests so far and its own
-pub AskAll-next : {K : ℕ} (lines : List (List ℕ)) (i j : ℕ) (requests longer : List (Request K)) (r : Request K) {line : List ℕ} {later : List (List ℕ)} → IsLineAt lines i line later → AskAll (take i lines) requests → Asks line r → j ≡ i + 1 → longer ≡ requests ++ r ∷ [] → AskAll (take j lines) longer
+pub AskAll-next : {K : ℕ} (lines : List (List ℕ)) (i j : ℕ) (requests longer : List (PointRequest K)) (r : PointRequest K) {line : List ℕ} {later : List (List ℕ)} → IsLineAt lines i line later → AskAll (take i lines) requests → Asks line r → j ≡ i + 1 → longer ≡ requests ++ r ∷ [] → AskAll (take j lines) longer
 AskAll-next lines i j requests longer r {line} at all asks next more =
     let pushed = AskAll-push (take i lines) requests line r all asks in
     let done : take i lines ++ line ∷ [] ≡ take j lines = sym (ap (λ n. take n lines) next ∙ at.done) in

@@ -4,9 +4,11 @@ use Rattle.std.specs.Prelude.{codes, Result, Ok, Err}
 use Rattle.hex.specs.Hex.{decode_of}
 use Rattle.hex.proofs.HexLemmas.{decode_of-same, decode_of-odd}
 use Rattle.grid_types.specs.Keys.{IsKey}
-use Rattle.grid_types.specs.declared.request.Request.{Request}
-use Rattle.grid_types.specs.declared.request.Request.TheVariants.{Put, Get}
-use Rattle.grid_model.specs.Script.{lines_of, key_text, IsData, IsPutText, Asks, AskAll, IsScript, IsFault}
+use Rattle.grid_types.specs.declared.point.PointRequest.{PointRequest}
+use Rattle.grid_types.specs.declared.point.PointRequest.TheVariants.{Put, Get}
+use Rattle.grid_model.specs.Script.{lines_of}
+use Rattle.grid_model.specs.Text.{key_text}
+use Rattle.grid_model.specs.PointScript.{IsData, IsPutText, Asks, AskAll, IsScript, IsFault}
 use Rattle.grid_script.proofs.Partings.{one_split}
 use Rattle.grid_script.proofs.KeyTexts.{key_without, key_text-injective}
 use Rattle.grid_script.proofs.LinesOf.{AskAll-each}
@@ -51,7 +53,7 @@ one_put K line k v m w p q =
     same_data f g a b e x y = one_data f a b x (subst (λ h. IsData h b) (sym e) y)
 
 -- a line asks one request at most
-pub Asks-one : {K : ℕ} (line : List ℕ) (r q : Request K) → Asks line r → Asks line q → r ≡ q
+pub Asks-one : {K : ℕ} (line : List ℕ) (r q : PointRequest K) → Asks line r → Asks line q → r ≡ q
 Asks-one {K} line (Put r) (Put q) a b =
     let same = one_put K line r.key.at r.value q.key.at q.value a b in
     λ i. Put (record { key = record { at = same.0 i }; value = same.1 i })
@@ -62,7 +64,7 @@ Asks-one {K} line (Get k) (Get m) a b =
     λ i. Get (record { at = same i })
 
 -- lines ask one list of requests at most
-pub AskAll-one : {K : ℕ} (lines : List (List ℕ)) (requests others : List (Request K)) → AskAll lines requests → AskAll lines others → requests ≡ others
+pub AskAll-one : {K : ℕ} (lines : List (List ℕ)) (requests others : List (PointRequest K)) → AskAll lines requests → AskAll lines others → requests ≡ others
 AskAll-one [] [] [] a b = refl
 AskAll-one [] [] (q ∷ others) a b = absurd b
 AskAll-one [] (r ∷ requests) others a b = absurd a
@@ -73,9 +75,9 @@ AskAll-one (line ∷ lines) (r ∷ requests) (q ∷ others) a b =
     let tail = AskAll-one lines requests others a.1 b.1 in
     λ i. head i ∷ tail i
 
-pub IsScript-one : {K : ℕ} (bytes : List ℕ) (requests others : List (Request K)) → IsScript bytes requests → IsScript bytes others → requests ≡ others
+pub IsScript-one : {K : ℕ} (bytes : List ℕ) (requests others : List (PointRequest K)) → IsScript bytes requests → IsScript bytes others → requests ≡ others
 IsScript-one bytes requests others a b = AskAll-one (lines_of bytes) requests others a.asked b.asked
 
-pub IsScript-sound : {K : ℕ} (bytes : List ℕ) (requests : List (Request K)) (n : ℕ) → IsScript bytes requests → IsFault K bytes n → ⊥
+pub IsScript-sound : {K : ℕ} (bytes : List ℕ) (requests : List (PointRequest K)) (n : ℕ) → IsScript bytes requests → IsFault K bytes n → ⊥
 IsScript-sound bytes requests n a (inl long) = omega (arith, a.short, long.0)
 IsScript-sound bytes requests n a (inr first) = AskAll-each (lines_of bytes) requests (n - 1) a.asked (omega (arith, first.1.some, first.1.there)) first.1.nothing

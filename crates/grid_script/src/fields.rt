@@ -1,7 +1,8 @@
 //! The fields of a line: keys and data.
 ghost use Rattle.std.specs.Prelude.{◌≡◌, ◌<◌, ◌^◌, ◌≤◌, ◌++◌, ◌∷◌, ℕ, List, IfSome, IfNone};
 ghost use Rattle.grid_types.specs.Keys.{IsKey};
-ghost use Rattle.grid_model.specs.Script.{key_text, IsData};
+ghost use Rattle.grid_model.specs.Text.{key_text};
+ghost use Rattle.grid_model.specs.PointScript.{IsData};
 ghost use Rattle.grid_script.specs.Fields.{Ends};
 
 use crate::lines::split_first;

@@ -1,11 +1,11 @@
 //! One line and the request that it asks.
 ghost use Rattle.std.specs.Prelude.{◌≡◌, ◌≤◌, ◌++◌, List, ℕ, codes, IfSome, IfNone};
-ghost use Rattle.grid_types.specs.declared.request.Request.{Request};
-ghost use Rattle.grid_model.specs.Script.{Asks, IsPutText};
+ghost use Rattle.grid_types.specs.declared.point.PointRequest.{PointRequest};
+ghost use Rattle.grid_model.specs.PointScript.{Asks, IsPutText};
 
 use crate::fields::{data_of, key_of};
 use crate::lines::split_first;
-use grid_types::{Record, Request};
+use grid_types::{Record, PointRequest};
 
 /// The record of a put, from what stands behind the word.
 fn record_of<const K: usize>(text: &[u8]) -> Option<Record<K>>
@@ -26,18 +26,18 @@ fn record_of<const K: usize>(text: &[u8]) -> Option<Record<K>>
 }
 
 /// The request that a line asks.
-pub fn request_of<const K: usize>(line: &[u8]) -> Option<Request<K>>
+pub fn request_of<const K: usize>(line: &[u8]) -> Option<PointRequest<K>>
     requires { 1 ≤ K }
     ensures found { IfSome result (λ r. Asks line.now r) }
-    ensures none { IfNone result ((r : Request K) → Asks line.now r → ⊥) }
+    ensures none { IfNone result ((r : PointRequest K) → Asks line.now r → ⊥) }
 {
     match line {
         [b'g', b'e', b't', b' ', text @ ..] => match key_of(text) {
-            Some(key) => Some(Request::Get(key)),
+            Some(key) => Some(PointRequest::Get(key)),
             None => None,
         },
         [b'p', b'u', b't', b' ', text @ ..] => match record_of(text) {
-            Some(record) => Some(Request::Put(record)),
+            Some(record) => Some(PointRequest::Put(record)),
             None => None,
         },
         _ => None,

@@ -1,12 +1,13 @@
 //! Scripts: a request for each line.
 ghost use Rattle.std.specs.Prelude.{◌≡◌, ◌<◌, ◌≤◌, ◌↔◌, ℕ, List, length, vec_len, IsTrue, IfOk, IsErrOf};
-ghost use Rattle.grid_types.specs.declared.request.Request.{Request};
-ghost use Rattle.grid_model.specs.Script.{lines_of, AskAll, longest, IsScript, FirstFault, IsFault};
+ghost use Rattle.grid_types.specs.declared.point.PointRequest.{PointRequest};
+ghost use Rattle.grid_model.specs.Script.{lines_of, longest};
+ghost use Rattle.grid_model.specs.PointScript.{AskAll, IsScript, FirstFault, IsFault};
 ghost use Rattle.grid_script.specs.declared.script.ScriptFault.TheVariants as fault;
 
 use crate::lines::first_line;
 use crate::request::request_of;
-use grid_types::Request;
+use grid_types::PointRequest;
 use std::alloc::Global;
 use std::marker::Model;
 
@@ -25,20 +26,20 @@ pub enum ScriptFault {
 /// The requests of a script, in order.
 #[derive(Drop)]
 pub struct Script<const K: usize> {
-    list: Vec<Request<K>>,
+    list: Vec<PointRequest<K>>,
 }
 
 impl<const K: usize> Model for Script<K> {
     ghost use Rattle.std.specs.Prelude.{List};
-    ghost use Rattle.grid_types.specs.declared.request.Request.{Request};
+    ghost use Rattle.grid_types.specs.declared.point.PointRequest.{PointRequest};
 
-    ghost Value = { List (Request K) };
+    ghost Value = { List (PointRequest K) };
 
     ghost view = { λ s. s.list.items };
 }
 
 impl<const K: usize> Script<K> {
-    pub fn requests(&self) -> &[Request<K>]
+    pub fn requests(&self) -> &[PointRequest<K>]
         ensures { result.now ≡ self.now }
     {
         self.list.as_slice()
@@ -53,7 +54,7 @@ fn is_too_long(bytes: &[u8]) -> bool
 }
 
 /// The requests of all lines, unless one asks nothing.
-fn requests_of<const K: usize>(alloc: Global, bytes: &[u8]) -> Result<Vec<Request<K>>, ScriptFault>
+fn requests_of<const K: usize>(alloc: Global, bytes: &[u8]) -> Result<Vec<PointRequest<K>>, ScriptFault>
     requires { 1 ≤ K }
     ensures read { IfOk result (λ v. AskAll (lines_of bytes.now) v.items) }
     ensures count { IfOk result (λ v. vec_len v ≤ length bytes.now) }
@@ -80,7 +81,7 @@ pub fn read_script<const K: usize>(alloc: Global, bytes: &[u8]) -> Result<Script
     requires some { 1 ≤ K }
     requires few { K ≤ 4 }
     ensures read { IfOk result (λ s. IsScript bytes.now s) }
-    ensures only { IfOk result (λ s. (requests : List (Request K)) → IsScript bytes.now requests → s ≡ requests) }
+    ensures only { IfOk result (λ s. (requests : List (PointRequest K)) → IsScript bytes.now requests → s ≡ requests) }
     ensures count { IfOk result (λ s. length s ≤ length bytes.now) }
     ensures fault { (n : ℕ) → IsErrOf result (fault.Line n) → IsFault K bytes.now n }
 {
@@ -95,6 +96,6 @@ pub fn read_script<const K: usize>(alloc: Global, bytes: &[u8]) -> Result<Script
 
 /// The law of scripts: a text is the script of one list of requests at most, and a script has no fault.
 pub fn script_law<const K: usize>()
-    ensures one { (bytes : List ℕ) (requests others : List (Request K)) → IsScript bytes requests → IsScript bytes others → requests ≡ others }
-    ensures sound { (bytes : List ℕ) (requests : List (Request K)) (n : ℕ) → IsScript bytes requests → IsFault K bytes n → ⊥ }
+    ensures one { (bytes : List ℕ) (requests others : List (PointRequest K)) → IsScript bytes requests → IsScript bytes others → requests ≡ others }
+    ensures sound { (bytes : List ℕ) (requests : List (PointRequest K)) (n : ℕ) → IsScript bytes requests → IsFault K bytes n → ⊥ }
 {}

@@ -1,7 +1,7 @@
 //! Worked lines, right and wrong, and printed lines.
 
 use super::*;
-use grid_types::{Answer, Data, Key, Record, Refusal, Reply, Request};
+use grid_types::{Answer, Data, Key, Record, Refusal, PointReply, PointRequest};
 
 /// How many requests were read, or the number of the faulty line.
 fn told(outcome: Result<Script<2>, ScriptFault>) -> Result<usize, u64> {
@@ -59,15 +59,15 @@ fn reads_requests(rt: HostRuntime) {
     let text = "put 3,18446744073709551615 00fFa1\nput 0,7 -\nget 12,0";
     let script = read_script::<2>(rt.alloc(), text.as_bytes()).expect(&rt, "a script");
     let wanted = [
-        Request::Put(Record {
+        PointRequest::Put(Record {
             key: Key { at: [3, u64::MAX] },
             value: Data::new(&[0, 255, 161]).unwrap_or_default(),
         }),
-        Request::Put(Record {
+        PointRequest::Put(Record {
             key: Key { at: [0, 7] },
             value: Data::default(),
         }),
-        Request::Get(Key { at: [12, 0] }),
+        PointRequest::Get(Key { at: [12, 0] }),
     ];
     assert_eq!(rt; script.requests(), wanted.as_slice());
 }
@@ -76,35 +76,35 @@ fn reads_requests(rt: HostRuntime) {
 fn prints_lines(rt: HostRuntime) {
     let old = Data::new(&[10, 255]);
     for (reply, want) in [
-        (Reply::Put(Answer { at: 0, value: None }), "@0 new\n"),
+        (PointReply::Put(Answer { at: 0, value: None }), "@0 new\n"),
         (
-            Reply::Put(Answer {
+            PointReply::Put(Answer {
                 at: u64::MAX,
                 value: old,
             }),
             "@18446744073709551615 old 0aff\n",
         ),
-        (Reply::Got(Answer { at: 3, value: None }), "@3 none\n"),
+        (PointReply::Got(Answer { at: 3, value: None }), "@3 none\n"),
         (
-            Reply::Got(Answer {
+            PointReply::Got(Answer {
                 at: 3,
                 value: Some(Data::default()),
             }),
             "@3 = -\n",
         ),
         (
-            Reply::Refused(Refusal::Unsure {
+            PointReply::Refused(Refusal::Unsure {
                 faults: 1,
                 before: 20,
             }),
             "unsure faults 1 before 20\n",
         ),
         (
-            Reply::Refused(Refusal::Full { free: 3, need: 4 }),
+            PointReply::Refused(Refusal::Full { free: 3, need: 4 }),
             "full free 3 need 4\n",
         ),
         (
-            Reply::Refused(Refusal::Damaged { page: 4294967295 }),
+            PointReply::Refused(Refusal::Damaged { page: 4294967295 }),
             "damaged page 4294967295\n",
         ),
     ] {

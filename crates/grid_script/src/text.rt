@@ -1,10 +1,11 @@
 //! Replies as text.
 ghost use Rattle.std.specs.Prelude.{◌≡◌, ◌≤◌, ◌+◌, ◌++◌, length, decimal, codes};
 ghost use Rattle.arrayvec.specs.ArrayVec.{array_vec_len};
-ghost use Rattle.grid_model.specs.Text.{hex_text, numbered, put_text, got_text, refusal_text, reply_text, reply_line, front_line};
+ghost use Rattle.grid_model.specs.Text.{hex_text, numbered, put_text, got_text, refusal_text, front_line};
+ghost use Rattle.grid_model.specs.PointText.{reply_text, reply_line};
 
 use arrayvec::ArrayVec;
-use grid_types::{Data, Refusal, Reply};
+use grid_types::{Data, Refusal, PointReply};
 use itoa::Buffer;
 
 /// Where text is gathered before it is written.
@@ -134,27 +135,27 @@ fn print_refusal(refusal: &Refusal, out: &mut Text)
 }
 
 /// A reply without the end of its line.
-fn print_answer(reply: &Reply, out: &mut Text)
+fn print_answer(reply: &PointReply, out: &mut Text)
     requires { array_vec_len out.old + 127 ≤ 4096 }
     ensures items { out.new.items ≡ out.old.items ++ reply_text reply.now }
     ensures len { array_vec_len out.new ≤ array_vec_len out.old + 127 }
 {
     match reply {
-        Reply::Put(answer) => {
+        PointReply::Put(answer) => {
             print_numbered(b"@", answer.at, out);
             print_put(&answer.value, out);
         }
-        Reply::Got(answer) => {
+        PointReply::Got(answer) => {
             print_numbered(b"@", answer.at, out);
             print_got(&answer.value, out);
         }
-        Reply::Refused(why) => print_refusal(why, out),
+        PointReply::Refused(why) => print_refusal(why, out),
     }
 }
 
 /// Adds the line of a reply. `LINE` bytes are enough for any.
-#[tactic(auto, unfolding(grid_model::specs::Text::reply_line))]
-pub fn print_reply(reply: &Reply, out: &mut Text)
+#[tactic(auto, unfolding(grid_model::specs::PointText::reply_line))]
+pub fn print_reply(reply: &PointReply, out: &mut Text)
     requires room { array_vec_len out.old + 128 ≤ 4096 }
     ensures line { out.new.items ≡ out.old.items ++ reply_line reply.now }
     ensures len { array_vec_len out.new ≤ array_vec_len out.old + 128 }

@@ -1,8 +1,9 @@
 -- A script, and the front of the input that is read of it: one byte more than a script may have.
 use Rattle.std.proofs.Common.{◌≡◌, ◌≤◌, ◌<◌, inl, inr, ℕ, List, length, take, sym, subst, arith}
 use Rattle.std.proofs.lemmas.List.{length-take, take_all}
-use Rattle.grid_types.specs.declared.request.Request.{Request}
-use Rattle.grid_model.specs.Script.{longest, IsScript, FirstFault, IsFault}
+use Rattle.grid_types.specs.declared.point.PointRequest.{PointRequest}
+use Rattle.grid_model.specs.Script.{longest}
+use Rattle.grid_model.specs.PointScript.{IsScript, FirstFault, IsFault}
 
 -- the most that is read
 abbrev pub most : ℕ
@@ -22,7 +23,7 @@ short_front all le = at_most (length all) (omega (arith, le, length-take most al
 whole : (all : List ℕ) → length all ≤ longest → take most all ≡ all
 whole all le = take_all most all (omega (arith, le, more_than_longest))
 
-pub script_read : {K : ℕ} (all : List ℕ) (requests : List (Request K)) → IsScript all requests → IsScript (take most all) requests
+pub script_read : {K : ℕ} (all : List ℕ) (requests : List (PointRequest K)) → IsScript all requests → IsScript (take most all) requests
 script_read all requests s = subst (λ bytes. IsScript bytes requests) (sym (whole all s.short)) s
 
 pub fault_read : (K : ℕ) (all : List ℕ) (n : ℕ) → IsFault K (take most all) n → IsFault K all n

@@ -4,8 +4,8 @@ use Rattle.grid_types.specs.declared.answer.Answer.{Answer}
 use Rattle.grid_types.specs.declared.key.Key.{Key}
 use Rattle.grid_types.specs.declared.refusal.Refusal.{Refusal}
 use Rattle.grid_types.specs.declared.refusal.Refusal.TheVariants.{ReadFault, WriteFault, Damaged, NoCut, Worn}
-use Rattle.grid_types.specs.declared.request.Request.TheVariants as ask
-use Rattle.grid_types.specs.declared.request.Reply.TheVariants as reply
+use Rattle.grid_types.specs.declared.point.PointRequest.TheVariants as ask
+use Rattle.grid_types.specs.declared.point.PointReply.TheVariants as reply
 use Rattle.grid_types.specs.declared.update.Record.{Record}
 use Rattle.grid_model.specs.Tables.{get, with_data}
 use Rattle.grid_model.specs.OneBucket.{Lone, takes, answer, after}

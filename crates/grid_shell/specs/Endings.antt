@@ -2,8 +2,8 @@
 use Rattle.std.specs.Prelude.{ℕ, ◌++◌, List, [], ◌∷◌, codes, decimal, max, ⊤}
 use Rattle.grid_types.specs.declared.refusal.Refusal.{Refusal}
 use Rattle.grid_types.specs.declared.refusal.Refusal.TheVariants as refusal
-use Rattle.grid_types.specs.declared.request.Reply.{Reply}
-use Rattle.grid_types.specs.declared.request.Reply.TheVariants as reply
+use Rattle.grid_types.specs.declared.point.PointReply.{PointReply}
+use Rattle.grid_types.specs.declared.point.PointReply.TheVariants as reply
 use Rattle.grid_script.specs.declared.script.ScriptFault.{ScriptFault}
 use Rattle.grid_script.specs.declared.script.ScriptFault.TheVariants as fault
 use Rattle.grid_shell.specs.declared.ending.Ending.{Ending}
@@ -78,13 +78,13 @@ refusal_end (refusal.Worn count) = Refused
 refusal_end (refusal.Arity found) = Damaged
 
 -- the end that a line makes
-abbrev pub line_end : Reply → Ending
+abbrev pub line_end : PointReply → Ending
 line_end (reply.Put a) = Done
 line_end (reply.Got a) = Done
 line_end (reply.Refused why) = refusal_end why
 
 -- the greatest status that some lines make
-unfoldable pub worst_of : List Reply → ℕ
+unfoldable pub worst_of : List PointReply → ℕ
 worst_of [] = 0
 worst_of (r ∷ rs) = max (status_of (line_end r)) (worst_of rs)
 

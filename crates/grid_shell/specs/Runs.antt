@@ -1,10 +1,10 @@
 -- What a run over one bucket prints and leaves.
 use Rattle.std.specs.Prelude.{◌≡◌, ◌⊎◌, ◌++◌, ◌∷◌, [], ℕ, List}
-use Rattle.grid_types.specs.declared.request.Request.{Request}
+use Rattle.grid_types.specs.declared.point.PointRequest.{PointRequest}
 use Rattle.grid_model.specs.Tables.{Table}
 use Rattle.grid_model.specs.OneBucket.{empty, answers, afterwards}
-use Rattle.grid_model.specs.Script.{IsFault}
-use Rattle.grid_model.specs.Text.{text}
+use Rattle.grid_model.specs.PointScript.{IsFault}
+use Rattle.grid_model.specs.PointText.{text}
 use Rattle.disk_trait.specs.Causes.{Rose}
 use Rattle.grid_shell.specs.declared.ending.Ending.{Ending}
 use Rattle.grid_shell.specs.declared.ending.Ending.TheVariants.{BadScript}
@@ -12,15 +12,15 @@ use Rattle.grid_shell.specs.Endings.{worst_of, status_of, error_text}
 use Rattle.grid_shell.specs.Standing.{StandsFor}
 
 -- the text of the lone caller's answers to these requests, begun from nothing, and then the front
-unfoldable pub printed : {K : ℕ} → ℕ → List (Request K) → List ℕ
+unfoldable pub printed : {K : ℕ} → ℕ → List (PointRequest K) → List ℕ
 printed capacity requests = text (answers capacity empty requests) (afterwards capacity empty requests).front
 
 -- the table that these requests leave, begun from nothing
-unfoldable pub left_by : {K : ℕ} → ℕ → List (Request K) → Table
+unfoldable pub left_by : {K : ℕ} → ℕ → List (PointRequest K) → Table
 left_by capacity requests = (afterwards capacity empty requests).table
 
 -- a script was answered: the lone caller's text was added to what the sink had, the image stands for the table that the script leaves, and the status is the greatest that a line makes
-pub record IsAnswered {K : ℕ} (capacity : ℕ) (requests : List (Request K)) (had has image : List ℕ) (status : ℕ) : Type 0 where
+pub record IsAnswered {K : ℕ} (capacity : ℕ) (requests : List (PointRequest K)) (had has image : List ℕ) (status : ℕ) : Type 0 where
   pub told : has ≡ had ++ printed capacity requests
   pub stands : StandsFor K capacity image (left_by capacity requests)
   pub ends : status ≡ worst_of (answers capacity empty requests)

@@ -3,7 +3,7 @@ ghost use Rattle.std.specs.Prelude.{◌≡◌, max};
 ghost use Rattle.grid_shell.specs.Endings.{status_of, with_fault_of, refusal_end, fault_end, line_end, worst_of, IsLineEnd, HasBegun};
 
 use grid_script::ScriptFault;
-use grid_types::{Refusal, Reply};
+use grid_types::{Refusal, PointReply};
 
 /// How a run ends. Each end has a status of its own, and later ones have greater statuses.
 #[derive(Clone, Copy, Debug, PartialEq, Eq)]
@@ -96,18 +96,18 @@ impl Ending {
         }
     }
 
-    fn of_line(reply: &Reply) -> Ending
+    fn of_line(reply: &PointReply) -> Ending
         ensures value { result ≡ line_end reply.now }
         ensures line { IsLineEnd result }
     {
         match reply {
-            Reply::Put(_) | Reply::Got(_) => Ending::Done,
-            Reply::Refused(refusal) => Ending::of_refusal(refusal),
+            PointReply::Put(_) | PointReply::Got(_) => Ending::Done,
+            PointReply::Refused(refusal) => Ending::of_refusal(refusal),
         }
     }
 
     /// The end of greatest status that the lines make.
-    pub fn worst(replies: &[Reply]) -> Ending
+    pub fn worst(replies: &[PointReply]) -> Ending
         ensures status { status_of result ≡ worst_of replies.now }
         ensures line { IsLineEnd result }
     {

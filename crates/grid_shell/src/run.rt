@@ -1,8 +1,8 @@
 //! The top call: all that the program does, over the words, the bay and the streams that it is handed.
 ghost use Rattle.std.specs.Prelude.{◌≡◌, ◌≢◌, ◌≤◌, ◌<◌, ◌+◌, ◌*◌, ◌⊎◌, ◌∷◌, ◌↔◌, [], List, ℕ, IsTrue, length};
-ghost use Rattle.grid_types.specs.declared.request.Request.{Request};
+ghost use Rattle.grid_types.specs.declared.point.PointRequest.{PointRequest};
 ghost use Rattle.grid_model.specs.OneBucket.{empty};
-ghost use Rattle.grid_model.specs.Script.{IsScript, IsFault};
+ghost use Rattle.grid_model.specs.PointScript.{IsScript, IsFault};
 ghost use Rattle.disk_trait.specs.Bay.{Absent, Home, SameBut, Tells};
 ghost use Rattle.disk_trait.specs.Causes.{Rose};
 ghost use Rattle.disk_trait.specs.Streams.{Adds};
@@ -20,7 +20,7 @@ use crate::session::answer_all;
 use crate::telling::tell;
 use disk_trait::{Bay, BayFailed, Disk, Sink, SinkFailed, Source, Steps};
 use grid_script::read_script;
-use grid_types::{Request, Words};
+use grid_types::{PointRequest, Words};
 use std::alloc::{AllocError, Global};
 use std::marker::Brand;
 use std::sync::ledger::{Blank, Ledger};
@@ -41,7 +41,7 @@ const MOST: usize = 16_777_217;
 fn answer_lines<D: Disk, O: Sink, L: Ledger>(
     alloc: Global,
     lone: &mut Lone<D>,
-    requests: &[Request<ATTRIBUTES>],
+    requests: &[PointRequest<ATTRIBUTES>],
     out: &mut O,
     blank: Blank,
 ) -> Ending
@@ -87,13 +87,13 @@ fn run_lines<D: Disk, S: Source, O: Sink>(
     out: &mut O,
 ) -> Ending
     ensures answered { IsTrue (D.honest lone.old.disk) → IsTrue (S.tells input.old) → IsTrue (O.tells out.old) → StandsAt ATTRIBUTES lone.old.capacity (D.seen lone.old.disk) lone.old.front empty
-        → (requests : List (Request ATTRIBUTES)) → IsScript (S.left input.old) requests
+        → (requests : List (PointRequest ATTRIBUTES)) → IsScript (S.left input.old) requests
         → (result ≡ Ending.Memory) ⊎ (OneRose ((D.read_count lone.old.disk, D.read_count lone.new.disk) ∷ (D.write_count lone.old.disk, D.write_count lone.new.disk) ∷ (S.fault_count input.old, S.fault_count input.new) ∷ (O.fault_count out.old, O.fault_count out.new) ∷ [])
         ⊎ IsAnswered lone.old.capacity requests (O.received out.old) (O.received out.new) (D.seen lone.new.disk) (status_of result)) }
     ensures done { result ≡ Ending.Done → IsTrue (D.honest lone.old.disk) → IsTrue (S.tells input.old) → IsTrue (O.tells out.old) → StandsAt ATTRIBUTES lone.old.capacity (D.seen lone.old.disk) lone.old.front empty
-        → (requests : List (Request ATTRIBUTES)) → IsScript (S.left input.old) requests → IsAnswered lone.old.capacity requests (O.received out.old) (O.received out.new) (D.seen lone.new.disk) (status_of result) }
+        → (requests : List (PointRequest ATTRIBUTES)) → IsScript (S.left input.old) requests → IsAnswered lone.old.capacity requests (O.received out.old) (O.received out.new) (D.seen lone.new.disk) (status_of result) }
     ensures front { IsTrue (D.honest lone.old.disk) → IsTrue (S.tells input.old) → IsTrue (O.tells out.old) → StandsAt ATTRIBUTES lone.old.capacity (D.seen lone.old.disk) lone.old.front empty
-        → (requests : List (Request ATTRIBUTES)) → IsScript (S.left input.old) requests → Adds (O.received out.old) (O.received out.new) (printed lone.old.capacity requests) }
+        → (requests : List (PointRequest ATTRIBUTES)) → IsScript (S.left input.old) requests → Adds (O.received out.old) (O.received out.new) (printed lone.old.capacity requests) }
     ensures device { result ≡ Ending.Device → OneRose ((D.read_count lone.old.disk, D.read_count lone.new.disk) ∷ (D.write_count lone.old.disk, D.write_count lone.new.disk) ∷ (S.fault_count input.old, S.fault_count input.new) ∷ (O.fault_count out.old, O.fault_count out.new) ∷ []) }
     ensures script { IsTrue (S.tells input.old) → (n : ℕ) → result ≡ Ending.BadScript n → IsFault ATTRIBUTES (S.left input.old) n }
     ensures quiet { IsTrue (O.tells out.old) → (n : ℕ) → result ≡ Ending.BadScript n → O.received out.new ≡ O.received out.old }
@@ -142,13 +142,13 @@ fn run_file<B: Bay, S: Source, O: Sink>(
     out: &mut O,
 ) -> Ending
     ensures answered { IsTrue (B.tells bay.old) → IsTrue (S.tells input.old) → IsTrue (O.tells out.old) → B.place bay.old name.now ≡ Absent
-        → (requests : List (Request ATTRIBUTES)) → IsScript (S.left input.old) requests
+        → (requests : List (PointRequest ATTRIBUTES)) → IsScript (S.left input.old) requests
         → (result ≡ Ending.Memory) ⊎ (OneRose ((B.fault_count bay.old, B.fault_count bay.new) ∷ (S.fault_count input.old, S.fault_count input.new) ∷ (O.fault_count out.old, O.fault_count out.new) ∷ [])
         ⊎ Tells (λ d. IsAnswered CAPACITY requests (O.received out.old) (O.received out.new) (B.Disk.seen d) (status_of result)) (B.place bay.new name.now)) }
     ensures done { result ≡ Ending.Done → IsTrue (B.tells bay.old) → IsTrue (S.tells input.old) → IsTrue (O.tells out.old)
-        → (requests : List (Request ATTRIBUTES)) → IsScript (S.left input.old) requests → Tells (λ d. IsAnswered CAPACITY requests (O.received out.old) (O.received out.new) (B.Disk.seen d) (status_of result)) (B.place bay.new name.now) }
+        → (requests : List (PointRequest ATTRIBUTES)) → IsScript (S.left input.old) requests → Tells (λ d. IsAnswered CAPACITY requests (O.received out.old) (O.received out.new) (B.Disk.seen d) (status_of result)) (B.place bay.new name.now) }
     ensures front { IsTrue (B.tells bay.old) → IsTrue (S.tells input.old) → IsTrue (O.tells out.old)
-        → (requests : List (Request ATTRIBUTES)) → IsScript (S.left input.old) requests → Adds (O.received out.old) (O.received out.new) (printed CAPACITY requests) }
+        → (requests : List (PointRequest ATTRIBUTES)) → IsScript (S.left input.old) requests → Adds (O.received out.old) (O.received out.new) (printed CAPACITY requests) }
     ensures device { result ≡ Ending.Device → (IsTrue (B.tells bay.old) × (B.place bay.old name.now ≢ Absent)) ⊎ OneRose ((B.fault_count bay.old, B.fault_count bay.new) ∷ (S.fault_count input.old, S.fault_count input.new) ∷ (O.fault_count out.old, O.fault_count out.new) ∷ []) }
     ensures script { IsTrue (S.tells input.old) → (n : ℕ) → result ≡ Ending.BadScript n → IsFault ATTRIBUTES (S.left input.old) n }
     ensures quiet { IsTrue (O.tells out.old) → (n : ℕ) → result ≡ Ending.BadScript n → O.received out.new ≡ O.received out.old }
@@ -184,17 +184,17 @@ pub fn run_grid<R: AllocGlobal, B: Bay, S: Source, O: Sink, E: Sink>(
     // A script that has no fault is answered as a lone caller's: the sink gets its text, the file stands for its table, and
     // the status is the worst that a line makes; or there was no memory, or a count of failures rose.
     ensures answered { (name : List ℕ) → IsRun words.now name → IsTrue (B.tells bay.old) → IsTrue (S.tells input.old) → IsTrue (O.tells out.old) → B.place bay.old name ≡ Absent
-        → (requests : List (Request ATTRIBUTES)) → IsScript (S.left input.old) requests
+        → (requests : List (PointRequest ATTRIBUTES)) → IsScript (S.left input.old) requests
         → (result ≡ 6) ⊎ (OneRose ((B.fault_count bay.old, B.fault_count bay.new) ∷ (S.fault_count input.old, S.fault_count input.new) ∷ (O.fault_count out.old, O.fault_count out.new) ∷ [])
         ⊎ Tells (λ d. IsAnswered CAPACITY requests (O.received out.old) (O.received out.new) (B.Disk.seen d) result) (B.place bay.new name)) }
 
     // Status 0 says that the script was answered, its text is out, and the file stands for its table, whatever the counts say.
     ensures done { result ≡ 0 → (name : List ℕ) → IsRun words.now name → IsTrue (B.tells bay.old) → IsTrue (S.tells input.old) → IsTrue (O.tells out.old)
-        → (requests : List (Request ATTRIBUTES)) → IsScript (S.left input.old) requests → Tells (λ d. IsAnswered CAPACITY requests (O.received out.old) (O.received out.new) (B.Disk.seen d) result) (B.place bay.new name) }
+        → (requests : List (PointRequest ATTRIBUTES)) → IsScript (S.left input.old) requests → Tells (λ d. IsAnswered CAPACITY requests (O.received out.old) (O.received out.new) (B.Disk.seen d) result) (B.place bay.new name) }
 
     // However it ends, the output has received a front of that text and nothing else.
     ensures front { (name : List ℕ) → IsRun words.now name → IsTrue (B.tells bay.old) → IsTrue (S.tells input.old) → IsTrue (O.tells out.old)
-        → (requests : List (Request ATTRIBUTES)) → IsScript (S.left input.old) requests → Adds (O.received out.old) (O.received out.new) (printed CAPACITY requests) }
+        → (requests : List (PointRequest ATTRIBUTES)) → IsScript (S.left input.old) requests → Adds (O.received out.old) (O.received out.new) (printed CAPACITY requests) }
 
     ensures words { (result ≡ 2) ↔ ((name : List ℕ) → IsRun words.now name → ⊥) }
     ensures script { IsTrue (S.tells input.old) → result ≡ 3 → HasFault ATTRIBUTES (S.left input.old) }

@@ -2,17 +2,17 @@
 ghost use Rattle.std.specs.Prelude.{◌≡◌, ◌≢◌, ◌≤◌, ◌<◌, ◌+◌, ◌⊎◌, [], List, ℕ, IsTrue, IfOk, IfErr, OnOk, length, vec_len, vec_capacity};
 ghost use Rattle.grid_model.specs.OneBucket.{Lone as LoneState, answer, answers, after, afterwards};
 ghost use Rattle.grid_types.specs.declared.refusal.Refusal.TheVariants.{ReadFault, WriteFault};
-ghost use Rattle.grid_types.specs.declared.request.Request.TheVariants as ask;
-ghost use Rattle.grid_types.specs.declared.request.Reply.TheVariants as reply;
+ghost use Rattle.grid_types.specs.declared.point.PointRequest.TheVariants as ask;
+ghost use Rattle.grid_types.specs.declared.point.PointReply.TheVariants as reply;
 ghost use Rattle.grid_shell.specs.Standing.{StandsAt, IsDiskFault};
 
 use crate::lone::{Lone, WORN};
 use disk_trait::{Disk, Steps};
-use grid_types::{Key, Record, Refusal, Reply, Request};
+use grid_types::{Key, Record, Refusal, PointReply, PointRequest};
 use std::sync::ledger::Ledger;
 
 /// A refusal as a reply. A fault of the disk is none.
-fn refused(refusal: Refusal) -> Result<Reply, Refusal>
+fn refused(refusal: Refusal) -> Result<PointReply, Refusal>
     ensures reply { IfOk result (λ r. r ≡ reply.Refused refusal) }
     ensures answered { IfOk result (λ r. (refusal ≢ ReadFault) × (refusal ≢ WriteFault)) }
     ensures fault { IfErr result (λ e. (e ≡ refusal) × ((e ≡ ReadFault) ⊎ (e ≡ WriteFault))) }
@@ -20,7 +20,7 @@ fn refused(refusal: Refusal) -> Result<Reply, Refusal>
     match refusal {
         Refusal::ReadFault => Err(Refusal::ReadFault),
         Refusal::WriteFault => Err(Refusal::WriteFault),
-        other => Ok(Reply::Refused(other)),
+        other => Ok(PointReply::Refused(other)),
     }
 }
 
@@ -29,7 +29,7 @@ fn reply_to_get<const K: usize, D: Disk, L: Ledger>(
     lone: &mut Lone<D>,
     key: &Key<K>,
     steps: &mut Steps<L>,
-) -> Result<Reply, Refusal>
+) -> Result<PointReply, Refusal>
     requires { K ≤ 4 }
     ensures told { IsTrue (D.honest lone.old.disk) → (s : LoneState) → StandsAt K lone.old.capacity (D.seen lone.old.disk) lone.old.front s → lone.old.front < WORN → IfOk result (λ r. r ≡ answer lone.old.capacity s (ask.Get key.now)) }
     ensures stands { IsTrue (D.honest lone.old.disk) → (s : LoneState) → StandsAt K lone.old.capacity (D.seen lone.old.disk) lone.old.front s → lone.old.front < WORN → OnOk result (StandsAt K lone.old.capacity (D.seen lone.new.disk) lone.new.front (after lone.old.capacity s (ask.Get key.now))) }
@@ -40,7 +40,7 @@ fn reply_to_get<const K: usize, D: Disk, L: Ledger>(
     ensures capacity { lone.new.capacity ≡ lone.old.capacity }
 {
     match lone.get(key, steps) {
-        Ok(answer) => Ok(Reply::Got(answer)),
+        Ok(answer) => Ok(PointReply::Got(answer)),
         Err(refusal) => refused(refusal),
     }
 }
@@ -50,7 +50,7 @@ fn reply_to_put<const K: usize, D: Disk, L: Ledger>(
     lone: &mut Lone<D>,
     row: &Record<K>,
     steps: &mut Steps<L>,
-) -> Result<Reply, Refusal>
+) -> Result<PointReply, Refusal>
     requires { K ≤ 4 }
     ensures told { IsTrue (D.honest lone.old.disk) → (s : LoneState) → StandsAt K lone.old.capacity (D.seen lone.old.disk) lone.old.front s → lone.old.front < WORN → IfOk result (λ r. r ≡ answer lone.old.capacity s (ask.Put row.now)) }
     ensures stands { IsTrue (D.honest lone.old.disk) → (s : LoneState) → StandsAt K lone.old.capacity (D.seen lone.old.disk) lone.old.front s → lone.old.front < WORN → OnOk result (StandsAt K lone.old.capacity (D.seen lone.new.disk) lone.new.front (after lone.old.capacity s (ask.Put row.now))) }
@@ -61,7 +61,7 @@ fn reply_to_put<const K: usize, D: Disk, L: Ledger>(
     ensures capacity { lone.new.capacity ≡ lone.old.capacity }
 {
     match lone.put(row, steps) {
-        Ok(answer) => Ok(Reply::Put(answer)),
+        Ok(answer) => Ok(PointReply::Put(answer)),
         Err(refusal) => refused(refusal),
     }
 }
@@ -69,9 +69,9 @@ fn reply_to_put<const K: usize, D: Disk, L: Ledger>(
 /// The reply to a request. A fault of the disk is no reply.
 fn reply_to<const K: usize, D: Disk, L: Ledger>(
     lone: &mut Lone<D>,
-    request: &Request<K>,
+    request: &PointRequest<K>,
     steps: &mut Steps<L>,
-) -> Result<Reply, Refusal>
+) -> Result<PointReply, Refusal>
     requires { K ≤ 4 }
     ensures told { IsTrue (D.honest lone.old.disk) → (s : LoneState) → StandsAt K lone.old.capacity (D.seen lone.old.disk) lone.old.front s → lone.old.front < WORN → IfOk result (λ r. r ≡ answer lone.old.capacity s request.now) }
     ensures stands { IsTrue (D.honest lone.old.disk) → (s : LoneState) → StandsAt K lone.old.capacity (D.seen lone.old.disk) lone.old.front s → lone.old.front < WORN → OnOk result (StandsAt K lone.old.capacity (D.seen lone.new.disk) lone.new.front (after lone.old.capacity s request.now)) }
@@ -82,16 +82,16 @@ fn reply_to<const K: usize, D: Disk, L: Ledger>(
     ensures capacity { lone.new.capacity ≡ lone.old.capacity }
 {
     match request {
-        Request::Get(key) => reply_to_get(lone, key, steps),
-        Request::Put(row) => reply_to_put(lone, row, steps),
+        PointRequest::Get(key) => reply_to_get(lone, key, steps),
+        PointRequest::Put(row) => reply_to_put(lone, row, steps),
     }
 }
 
 /// Answers each request in order, into replies that have room for all. The first fault of the disk ends it.
 pub fn answer_all<const K: usize, D: Disk, L: Ledger>(
     lone: &mut Lone<D>,
-    requests: &[Request<K>],
-    replies: &mut Vec<Reply>,
+    requests: &[PointRequest<K>],
+    replies: &mut Vec<PointReply>,
     steps: &mut Steps<L>,
 ) -> Result<(), Refusal>
     requires few { K ≤ 4 }

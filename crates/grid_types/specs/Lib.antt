@@ -1,2 +1,5 @@
 pub mod Keys
 pub mod Regions
+pub mod Queries
+pub mod Shapes
+pub mod Pages

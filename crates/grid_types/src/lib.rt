@@ -1,20 +1,31 @@
-//! The words of the project: keys, data, records, regions, updates, requests, replies and refusals.
+//! The words of the project: keys, data, records, regions, queries, updates and their notes, requests, replies and
+//! refusals, and the shape of a file.
 #![tactic(auto)]
 
 mod answer;
 mod data;
 mod key;
+mod note;
+mod point;
+mod query;
 mod refusal;
 mod region;
 mod request;
+mod rows;
+mod shape;
 mod update;
 mod words;
 
 pub use answer::Answer;
 pub use data::Data;
 pub use key::{Key, key_order};
+pub use note::{Cut, NoteOf, Noted};
+pub use point::{PointReply, PointRequest};
+pub use query::{Query, Side};
 pub use refusal::Refusal;
 pub use region::Region;
-pub use request::{Reply, Request};
-pub use update::{Record, Update};
+pub use request::{Line, Reply, Request};
+pub use rows::Rows;
+pub use shape::{Shape, Stat};
+pub use update::{Entry, Record, Update};
 pub use words::Words;

@@ -17,3 +17,10 @@ pub enum Update<const K: usize> {
     /// From now on the key is absent.
     Remove(Key<K>),
 }
+
+/// An update in a history: who made it.
+#[derive(Debug, Drop, PartialEq, Eq)]
+pub struct Entry<const K: usize> {
+    pub caller: u32,
+    pub update: Update<K>,
+}

@@ -1,7 +1,7 @@
 use Rattle.std.proofs.Common.{◌≡◌, ◌∙◌, ◌+◌, ◌-◌, ◌<◌, ◌^◌, ◌∷◌, [], ap, subst, arith, length, take, drop, get_or}
 use Rattle.std.proofs.lemmas.List.{length-set, append-nil, take_all}
 use Rattle.grid_script.specs.Fields.{Ends}
-use Rattle.grid_model.specs.Script.{key_text}
+use Rattle.grid_model.specs.Text.{key_text}
 use Rattle.grid_script.proofs.KeyTexts.{ends_there, glued, last_one, not_last, is_last, set_below, next_number}
 use Rattle.grid_script.proofs.fields.key_of.Goals as goal
 

@@ -1,5 +1,5 @@
 use Rattle.std.proofs.Common.{◌≡◌, ◌<◌, ◌-◌, ◌^◌, ◌++◌, ℕ, List, [], length, take, drop, slice_index}
-use Rattle.grid_model.specs.Script.{key_text}
+use Rattle.grid_model.specs.Text.{key_text}
 use Rattle.grid_types.specs.Keys.{IsKey}
 use Rattle.grid_script.proofs.fields.key_of.Given as goal
 

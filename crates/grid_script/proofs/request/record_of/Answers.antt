@@ -1,5 +1,6 @@
 use Rattle.std.proofs.Common.{◌≡◌, refl, sym, subst, ◌∙◌, ◌∷◌, ◌++◌}
-use Rattle.grid_model.specs.Script.{key_text, IsData}
+use Rattle.grid_model.specs.Text.{key_text}
+use Rattle.grid_model.specs.PointScript.{IsData}
 use Rattle.grid_script.specs.Fields.{Without}
 use Rattle.grid_script.proofs.Partings.{one_split, has_it}
 use Rattle.grid_script.proofs.KeyTexts.{key_without}

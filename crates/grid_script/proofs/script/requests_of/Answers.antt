@@ -1,7 +1,8 @@
 use Rattle.std.proofs.Common.{◌≡◌, length, drop, sym, ap, subst, ◌∙◌, arith}
 use Rattle.std.specs.Prelude.{vec_len}
 use Rattle.std.proofs.lemmas.Bool.{eqb-true}
-use Rattle.grid_model.specs.Script.{lines_of, AskAll}
+use Rattle.grid_model.specs.Script.{lines_of}
+use Rattle.grid_model.specs.PointScript.{AskAll}
 use Rattle.grid_script.proofs.LinesOf.{line_at, all_done, AskAll-next}
 use Rattle.grid_script.proofs.script.requests_of.Goals as goal
 

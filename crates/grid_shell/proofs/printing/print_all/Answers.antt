@@ -1,6 +1,6 @@
 use Rattle.std.proofs.Common.{◌≡◌, ◌∙◌, sym, ap, subst, length, arith, ◌++◌, List, ℕ}
 use Rattle.std.proofs.lemmas.Result.{on_ok_weaker}
-use Rattle.grid_model.specs.Text.{reply_line}
+use Rattle.grid_model.specs.PointText.{reply_line}
 use Rattle.disk_trait.specs.Streams.{Adds}
 use Rattle.grid_shell.proofs.Adding.{adds_longer, adds_next}
 use Rattle.grid_shell.proofs.Lines.{lines_more, all_lines, one_more, adds_text}

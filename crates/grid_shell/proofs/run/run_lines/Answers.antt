@@ -1,7 +1,7 @@
 use Rattle.std.proofs.Common.{◌≡◌, ◌∙◌, sym, ap, subst, inl, List}
 use Rattle.disk_trait.specs.Streams.{Adds}
-use Rattle.grid_types.specs.declared.request.Request.{Request}
-use Rattle.grid_model.specs.Script.{IsScript, IsFault}
+use Rattle.grid_types.specs.declared.point.PointRequest.{PointRequest}
+use Rattle.grid_model.specs.PointScript.{IsScript, IsFault}
 use Rattle.grid_script.specs.declared.script.ScriptFault.TheVariants as fault
 use Rattle.grid_script.proofs.Readings.{IsScript-sound}
 use Rattle.grid_shell.specs.Endings.{status_of, fault_end}
@@ -33,13 +33,13 @@ pub returns-in-Ok-read_script-clause-front : goal.returns-in-Ok-read_script-clau
 returns-in-Ok-read_script-clause-front g c = λ h ts to at requests s.
     let read = subst (λ bytes. IsScript bytes requests) (sym (c.as_slice.ensures.value ∙ c.in-Ok.ensures.bytes ts)) (script_read (g.S.Source.left c.args.input.now) requests s) in
     let same : c.requests.result.now ≡ requests = c.requests.ensures ∙ c.in-Ok-read_script.ensures.only requests read in
-    subst (λ (rs : List (Request 2)). Adds (g.O.Sink.received c.args.out.now) (g.O.Sink.received c.answer_lines.new.out) (printed c.args.lone.now.capacity rs)) same (c.answer_lines.ensures.front h to at)
+    subst (λ (rs : List (PointRequest 2)). Adds (g.O.Sink.received c.args.out.now) (g.O.Sink.received c.answer_lines.new.out) (printed c.args.lone.now.capacity rs)) same (c.answer_lines.ensures.front h to at)
 
 pub returns-in-Ok-read_script-clause-done : goal.returns-in-Ok-read_script-clause-done
 returns-in-Ok-read_script-clause-done g c = λ d h ts to at requests s.
     let read = subst (λ bytes. IsScript bytes requests) (sym (c.as_slice.ensures.value ∙ c.in-Ok.ensures.bytes ts)) (script_read (g.S.Source.left c.args.input.now) requests s) in
     let same : c.requests.result.now ≡ requests = c.requests.ensures ∙ c.in-Ok-read_script.ensures.only requests read in
-    subst (λ (rs : List (Request 2)). IsAnswered c.args.lone.now.capacity rs (g.O.Sink.received c.args.out.now) (g.O.Sink.received c.answer_lines.new.out) (g.D.Disk.seen c.answer_lines.new.lone.disk) (status_of c.answer_lines.result)) same (c.answer_lines.ensures.done d h to at)
+    subst (λ (rs : List (PointRequest 2)). IsAnswered c.args.lone.now.capacity rs (g.O.Sink.received c.args.out.now) (g.O.Sink.received c.answer_lines.new.out) (g.D.Disk.seen c.answer_lines.new.lone.disk) (status_of c.answer_lines.result)) same (c.answer_lines.ensures.done d h to at)
 
 pub returns-clause-done : goal.returns-clause-done
 returns-clause-done g c = λ d. absurd (unread_is_not_done c.in-Err.fault (sym c.of_fault.ensures ∙ d))

@@ -1,7 +1,7 @@
 use Rattle.std.proofs.Common.{◌≡◌, ◌∙◌, ◌+◌, ap}
 use Rattle.std.proofs.lemmas.Result.{IfOk-weaker}
 use Rattle.grid_types.specs.declared.refusal.Refusal.TheVariants.{Damaged, NoCut, Worn}
-use Rattle.grid_types.specs.declared.request.Reply.TheVariants as reply
+use Rattle.grid_types.specs.declared.point.PointReply.TheVariants as reply
 use Rattle.grid_shell.specs.declared.lone.TheConstants.{WORN}
 use Rattle.grid_shell.proofs.Errors.{error_of, both_ok}
 use Rattle.grid_shell.proofs.Replies.{put_is, stands_after_put, refusal_is, stands_after_refusal, put_refused}

@@ -1,0 +1,54 @@
+-- A cell is a list of one interval for each attribute. Cells have places in the directory, and a thousand make a part.
+use Rattle.std.specs.Prelude.{ℕ, ◌+◌, ◌-◌, ◌*◌, ◌/◌, List, map, nat_lt, ◌==◌, if◌then◌else◌, slice_index, slice_set, filter, fold, zip}
+use Rattle.std.specs.List.{list_any}
+use Rattle.grid_types.specs.declared.region.Region.{Region}
+use Rattle.grid_model.specs.Lists.{below, from_to, zip_with, product, choices}
+use Rattle.grid_model.specs.Scales.{interval, intervals, low}
+
+-- how many intervals each attribute has
+abbrev pub dims : List (List ℕ) → List ℕ
+dims scales = map intervals scales
+
+-- how many cells there are
+abbrev pub cells : List (List ℕ) → ℕ
+cells scales = product (dims scales)
+
+-- the number of directory parts
+abbrev pub parts : List (List ℕ) → ℕ
+parts scales = (cells scales + 999) / 1000
+
+-- the cell of a key
+abbrev pub cell_of : List (List ℕ) → List ℕ → List ℕ
+cell_of scales key = zip_with interval scales key
+
+-- the lowest key of a cell
+abbrev pub corner : List (List ℕ) → List ℕ → List ℕ
+corner scales cell = zip_with low scales cell
+
+-- the place of a cell: it begins as 0, and for each attribute in order it becomes the place times the number of intervals, plus the cell's interval
+abbrev pub place : List ℕ → List ℕ → ℕ
+place ns cell = fold (λ at p. at * p.0 + p.1) 0 (zip ns cell)
+
+-- the directory part of a cell
+abbrev pub part_of : List (List ℕ) → List ℕ → ℕ
+part_of scales cell = place (dims scales) cell / 1000
+
+-- all cells, in the order of their places
+abbrev pub all_cells : List (List ℕ) → List (List ℕ)
+all_cells scales = choices (map below (dims scales))
+
+-- the interval that was c before interval i was split in two
+abbrev pub interval_before : ℕ → ℕ → ℕ
+interval_before i c = if nat_lt i c then c - 1 else c
+
+-- the cell that was this one before interval i of attribute a was split
+abbrev pub image_of : List ℕ → ℕ → ℕ → List ℕ
+image_of cell a i = slice_set cell a (interval_before i (slice_index cell a))
+
+-- the cells of a region, in the order of their places
+abbrev pub cells_of : {K : ℕ} → List (List ℕ) → Region K → List (List ℕ)
+cells_of scales r = choices (zip_with from_to (cell_of scales r.lo) (cell_of scales r.hi))
+
+-- the directory parts that hold a cell of the region
+abbrev pub parts_holding : {K : ℕ} → List (List ℕ) → Region K → List ℕ
+parts_holding scales r = filter (λ p. list_any (λ cell. part_of scales cell == p) (cells_of scales r)) (below (parts scales))

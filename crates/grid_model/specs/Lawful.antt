@@ -1,0 +1,90 @@
+-- Which fields of pages are lawful: their numbers are in their ranges, and say what a file may say.
+use Rattle.std.specs.Prelude.{◌≡◌, ℕ, ◌+◌, ◌*◌, ◌/◌, ◌%◌, ◌<◌, ◌≤◌, ◌^◌, List, ◌++◌, ◌==◌, not, map, filter, length, slice_get, Some, All, IsTrue, ⊤}
+use Rattle.grid_types.specs.declared.shape.Shape.{Shape}
+use Rattle.grid_types.specs.declared.update.Update.{Update}
+use Rattle.grid_types.specs.declared.update.Update.TheVariants.{Put, Remove}
+use Rattle.grid_types.specs.declared.note.NoteOf.{NoteOf}
+use Rattle.grid_types.specs.declared.note.NoteOf.TheVariants as note
+use Rattle.grid_types.specs.declared.note.Noted.{Noted}
+use Rattle.grid_types.specs.Keys.{IsKey}
+use Rattle.grid_model.specs.Lists.{product}
+use Rattle.grid_model.specs.Scales.{is_scale}
+use Rattle.grid_model.specs.Notes.{key_of}
+use Rattle.grid_model.specs.Spellings.{RootFields, Batch, data_of}
+
+-- data is at most 40 bytes
+abbrev pub IsData : List ℕ → Type 0
+IsData d = length d ≤ 40
+
+-- the number that stands where no bucket has a number
+unfoldable pub nowhere : ℕ
+nowhere = 4294967295
+
+-- the cells that scales with so many boundaries make
+abbrev pub cells_of_counts : List ℕ → ℕ
+cells_of_counts counts = product (map (λ n. n + 1) counts)
+
+-- root fields are lawful on a header page of a file of this shape: the root's number has the page's parity, the numbers are within their limits, the parts are those of the cells, and there are no more records than the buckets hold
+pub record IsRootOn (shape : Shape) (header : ℕ) (r : RootFields) : Type 0 where
+  pub parity : r.number % 2 ≡ header
+  pub number : r.number ≤ 2 ^ 63
+  pub session : r.session ≤ 2 ^ 63
+  pub front : r.front < 2 ^ 63
+  pub attributes : length r.boundaries ≡ shape.k
+  pub few_boundaries : All (λ n. n ≤ shape.boundaries) r.boundaries
+  pub few_cells : cells_of_counts r.boundaries ≤ shape.cells
+  pub parts : r.parts ≡ (cells_of_counts r.boundaries + 999) / 1000
+  pub some_buckets : 1 ≤ r.buckets
+  pub few_buckets : r.buckets < shape.pages
+  pub records : r.records ≤ r.buckets * shape.capacity
+
+-- what a table area says: the scales, the data page of each directory part, and the data page of each bucket number, or nowhere
+pub record Area : Type 0 where
+  pub scales : List (List ℕ)
+  pub parts : List ℕ
+  pub table : List ℕ
+
+-- the data pages that a table names
+abbrev pub pages_named : List ℕ → List ℕ
+pages_named table = filter (λ p. not (p == nowhere)) table
+
+-- no number stands twice in a list
+abbrev pub AreDistinct : List ℕ → Type 0
+AreDistinct ns = (i j n : ℕ) → slice_get ns i ≡ Some n → slice_get ns j ≡ Some n → i ≡ j
+
+-- a table area is lawful for a root: the numbers of boundaries, parts and buckets are the root's, scales ascend, and each data page is one, and named once
+pub record IsAreaOf (shape : Shape) (r : RootFields) (a : Area) : Type 0 where
+  pub boundaries : map length a.scales ≡ r.boundaries
+  pub scales : All (λ scale. IsTrue (is_scale scale)) a.scales
+  pub parts : length a.parts ≡ r.parts
+  pub numbers : length a.table ≡ shape.pages
+  pub buckets : length (pages_named a.table) ≡ r.buckets
+  pub pages : All (λ p. p < shape.pages) (a.parts ++ pages_named a.table)
+  pub distinct : AreDistinct (a.parts ++ pages_named a.table)
+
+-- an update has a key of K numbers, and data of at most 40 bytes
+pub record IsUpdateOf (K : ℕ) (u : Update K) : Type 0 where
+  pub key : IsKey K (key_of u)
+  pub value : IsData (data_of u)
+
+-- a note stands with an update where it has a spelling: cuts with puts, merges with removes, of numbers in their ranges
+abbrev pub StandsWith : {K : ℕ} → Update K → NoteOf → Type 0
+StandsWith u note.Plain = ⊤
+StandsWith {K} (Put r) (note.Cut c right) = (c.attribute < K) × (c.value < 2 ^ 64) × (right < 2 ^ 32)
+StandsWith (Remove k) (note.Cut c right) = ⊥
+StandsWith (Put r) (note.Merge m) = ⊥
+StandsWith (Remove k) (note.Merge m) = m < 2 ^ 32
+
+-- an update with its note has a spelling
+pub record IsNotedUpdate {K : ℕ} (u : Noted K) : Type 0 where
+  pub update : IsUpdateOf K u.update
+  pub note : StandsWith u.update u.note
+
+-- a batch has a spelling: 1 to 16 updates, and places that stay below the limit
+pub record IsBatch {K : ℕ} (b : Batch K) : Type 0 where
+  pub some : 1 ≤ length b.updates
+  pub few : length b.updates ≤ 16
+  pub session : b.session < 2 ^ 64
+  pub first : 1 ≤ b.first
+  pub last : b.first ≤ 9223372036854775792
+  pub updates : All IsNotedUpdate b.updates

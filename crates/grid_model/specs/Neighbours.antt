@@ -1,0 +1,73 @@
+-- The neighbours of a box, and those that it may be joined with.
+use Rattle.std.specs.Prelude.{ℕ, ◌+◌, ◌-◌, ◌*◌, ◌/◌, List, [], ◌∷◌, Bool, ◌&&◌, ◌||◌, min, max, length, nat_lt, nat_le, ◌==◌, if◌then◌else◌, slice_index, slice_set, flat_map, filter_map, Option, Some, None}
+use Rattle.std.specs.Option.{option_and_then}
+use Rattle.std.specs.List.{list_any}
+use lib.Pointwise.{pointwise}
+use Rattle.grid_types.specs.declared.region.Region.{Region}
+use Rattle.grid_types.specs.declared.shape.Shape.{Shape}
+use Rattle.grid_model.specs.Lists.{below, zip_with}
+use Rattle.grid_model.specs.Scales.{top}
+use Rattle.grid_model.specs.Tables.{Table}
+use Rattle.grid_model.specs.Layouts.{Box, Layout, holder, inside}
+
+-- a side of a region: below or above it in an attribute
+pub data Side : Type 0 where
+  Below : (attribute : ℕ) → Side
+  Above : (attribute : ℕ) → Side
+
+-- the sides of an attribute, below before above
+abbrev pub sides_of : ℕ → List Side
+sides_of a = Below a ∷ Above a ∷ []
+
+-- the sides of a region, attributes ascending
+abbrev pub sides : ℕ → List Side
+sides K = flat_map sides_of (below K)
+
+-- the lowest corner, moved to one below the low bound or one above the high bound; none at the end of the numbers
+abbrev pub probe : {K : ℕ} → Region K → Side → Option (List ℕ)
+probe r (Below a) = if nat_lt 0 (slice_index r.lo a) then Some (slice_set r.lo a (slice_index r.lo a - 1)) else None
+probe r (Above a) = if nat_lt (slice_index r.hi a) top then Some (slice_set r.lo a (slice_index r.hi a + 1)) else None
+
+-- the neighbour on a side: the box that has the moved corner, with its number
+abbrev pub neighbour : {K : ℕ} → Layout K → Region K → Side → Option (ℕ × Box K)
+neighbour L r side = option_and_then (holder L) (probe r side)
+
+-- two lists are the same but at a place
+abbrev pub same_but : ℕ → List ℕ → List ℕ → Bool
+same_but a xs ys = pointwise ◌==◌ (slice_set xs a 0) (slice_set ys a 0)
+
+-- one of two intervals begins where the other ends
+abbrev pub one_follows : ℕ → ℕ → ℕ → ℕ → Bool
+one_follows lo hi lo2 hi2 = (hi + 1 == lo2) || (hi2 + 1 == lo)
+
+-- two regions touch along an attribute: they are the same in all others, and in this one the one begins where the other ends
+abbrev pub touch_along : {K : ℕ} → Region K → Region K → ℕ → Bool
+touch_along r s a = same_but a r.lo s.lo && (same_but a r.hi s.hi && one_follows (slice_index r.lo a) (slice_index r.hi a) (slice_index s.lo a) (slice_index s.hi a))
+
+-- two regions together are a box
+abbrev pub make_a_box : {K : ℕ} → Region K → Region K → Bool
+make_a_box r s = list_any (touch_along r s) (below (length r.lo))
+
+-- the least region that has the keys of both
+abbrev pub hull : {K : ℕ} → Region K → Region K → Region K
+hull r s = record { lo = zip_with min r.lo s.lo; hi = zip_with max r.hi s.hi }
+
+-- two regions hold at most seven tenths of a bucket's records together
+abbrev pub fit_together : {K : ℕ} → Shape → Table → Region K → Region K → Bool
+fit_together shape t r s = nat_le (length (inside t r) + length (inside t s)) (7 * shape.capacity / 10)
+
+-- a region joins with a box where both are a box and fit together
+abbrev pub can_join : {K : ℕ} → Shape → Table → Region K → Region K → Bool
+can_join shape t r s = make_a_box r s && fit_together shape t r s
+
+-- the number of a box that the region joins with
+abbrev pub if_joins : {K : ℕ} → Shape → Table → Region K → ℕ × Box K → Option ℕ
+if_joins shape t r e = if can_join shape t r e.1.region then Some e.0 else None
+
+-- the number of the neighbour on a side, where it joins
+abbrev pub joins : {K : ℕ} → Shape → Layout K → Table → Region K → Side → Option ℕ
+joins shape L t r side = option_and_then (if_joins shape t r) (neighbour L r side)
+
+-- the numbers of the neighbours that join, by sides, where the table is the one after the removal
+unfoldable pub partners : {K : ℕ} → Shape → Layout K → Table → Region K → List ℕ
+partners shape L t r = filter_map (joins shape L t r) (sides (length r.lo))

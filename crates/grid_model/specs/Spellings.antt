@@ -1,0 +1,125 @@
+-- What bytes spell each kind of page. Numbers stand with the highest byte first, and bytes that are not named are 0.
+use Rattle.std.specs.Prelude.{ℕ, List, [], ◌∷◌, ◌++◌, cond, length, codes, replicate}
+use Rattle.std.specs.List.{flat_map}
+use Rattle.page_fields.specs.Fields.{bytes_of}
+use Rattle.page_fields.specs.Padded.{padded, numbers}
+use Rattle.grid_types.specs.declared.region.Region.{Region}
+use Rattle.grid_types.specs.declared.shape.Shape.{Shape}
+use Rattle.grid_types.specs.declared.update.Record.{Record}
+use Rattle.grid_types.specs.declared.update.Update.{Update}
+use Rattle.grid_types.specs.declared.update.Update.TheVariants.{Put, Remove}
+use Rattle.grid_types.specs.declared.note.NoteOf.{NoteOf}
+use Rattle.grid_types.specs.declared.note.NoteOf.TheVariants as note
+use Rattle.grid_types.specs.declared.note.Noted.{Noted}
+use Rattle.grid_model.specs.Notes.{key_of}
+
+-- numbers of four bytes, one behind the other
+unfoldable pub words_of : List ℕ → List ℕ
+words_of ns = flat_map (bytes_of 4) ns
+
+-- a page is a head of 96 bytes and a body of 4,000, both filled up with zeros
+unfoldable pub page : List ℕ → List ℕ → List ℕ
+page head body = padded 96 head ++ padded 4000 body
+
+-- the front of both header pages: the file's name, its version, and the shape
+unfoldable pub shape_bytes : Shape → List ℕ
+shape_bytes s = padded 64 (codes "GRIDFILE" ++ (bytes_of 2 1 ++ (s.k ∷ 0 ∷ (bytes_of 2 s.capacity ++ (0 ∷ 0 ∷ (bytes_of 4 s.pages ++ (bytes_of 4 s.slots ++ (bytes_of 4 s.boundaries ++ bytes_of 4 s.cells))))))))
+
+-- what a header page says of a root: its number, its session, its front, how many records it has, how many boundaries each scale has, and how many directory parts and buckets there are
+pub record RootFields : Type 0 where
+  pub number : ℕ
+  pub session : ℕ
+  pub front : ℕ
+  pub records : ℕ
+  pub boundaries : List ℕ
+  pub parts : ℕ
+  pub buckets : ℕ
+
+-- the 56 bytes of a root's fields
+unfoldable pub root_bytes : RootFields → List ℕ
+root_bytes r = bytes_of 8 r.number ++ (bytes_of 8 r.session ++ (bytes_of 8 r.front ++ (bytes_of 8 r.records ++ (padded 16 (words_of r.boundaries) ++ (bytes_of 4 r.parts ++ bytes_of 4 r.buckets)))))
+
+-- the head of a page of a table area: its kind, its index in the area, how many entries it has, and the root's number
+unfoldable pub area_head : List ℕ → ℕ → ℕ → ℕ → List ℕ
+area_head kind index count root = kind ++ (bytes_of 4 index ++ (bytes_of 4 count ++ (0 ∷ 0 ∷ 0 ∷ 0 ∷ bytes_of 8 root)))
+
+-- a page with boundaries of a scale
+unfoldable pub scale_page : ℕ → ℕ → List ℕ → List ℕ
+scale_page root index boundaries = page (area_head (codes "GFS1") index (length boundaries) root) (numbers boundaries)
+
+-- the page with the data page of each directory part
+unfoldable pub list_page : ℕ → ℕ → List ℕ → List ℕ
+list_page root index pages = page (area_head (codes "GFL1") index (length pages) root) (words_of pages)
+
+-- a page with the data pages of a thousand bucket numbers
+unfoldable pub bucket_table_page : ℕ → ℕ → List ℕ → List ℕ
+bucket_table_page root index pages = page (area_head (codes "GFT1") index (length pages) root) (words_of pages)
+
+-- a directory page: its part, and the bucket number of each cell
+unfoldable pub directory_page : ℕ → List ℕ → List ℕ
+directory_page part cells = page (codes "GFD1" ++ (bytes_of 4 part ++ bytes_of 4 (length cells))) (words_of cells)
+
+-- a record is 32 bytes for the key, one for the length of the data, and 47 for the data
+unfoldable pub row_bytes : {K : ℕ} → Record K → List ℕ
+row_bytes r = padded 32 (numbers r.key.at) ++ (length r.value ∷ padded 47 r.value)
+
+-- the head of a bucket page is 96 bytes: the kind, the bucket's number, how many records, turn and arity, and the two corners of the region
+unfoldable pub bucket_head : (K : ℕ) → ℕ → ℕ → ℕ → Region K → List ℕ
+bucket_head K number count turn region = codes "GFB1" ++ (bytes_of 4 number ++ (bytes_of 2 count ++ (turn ∷ K ∷ 0 ∷ 0 ∷ 0 ∷ 0 ∷ (padded 32 (numbers region.lo) ++ (padded 32 (numbers region.hi) ++ replicate 16 0)))))
+
+-- a bucket page is the head, and the records one after the other, filled up with zeros
+unfoldable pub bucket_page : (K : ℕ) → ℕ → ℕ → Region K → List (Record K) → List ℕ
+bucket_page K number turn region rows = bucket_head K number (length rows) turn region ++ padded 4000 (flat_map row_bytes rows)
+
+-- a gate page: the half of the journal, and the gate of each slot
+unfoldable pub gate_page : ℕ → List ℕ → List ℕ
+gate_page half gates = page (codes "GFG1" ++ bytes_of 4 half) gates
+
+-- an update is 1 for a put and 2 for a remove
+abbrev pub update_code : {K : ℕ} → Update K → ℕ
+update_code (Put r) = 1
+update_code (Remove k) = 2
+
+-- a note is 0 for plain, 1 for a cut at an existing boundary, 2 for a refinement, 3 for a merge
+abbrev pub note_code : NoteOf → ℕ
+note_code note.Plain = 0
+note_code (note.Cut c right) = cond c.fresh 2 1
+note_code (note.Merge m) = 3
+
+-- the attribute of a cut
+abbrev pub note_attribute : NoteOf → ℕ
+note_attribute note.Plain = 0
+note_attribute (note.Cut c right) = c.attribute
+note_attribute (note.Merge m) = 0
+
+-- the new bucket of a cut, or the neighbour of a merge
+abbrev pub note_bucket : NoteOf → ℕ
+note_bucket note.Plain = 0
+note_bucket (note.Cut c right) = right
+note_bucket (note.Merge m) = m
+
+-- the boundary of a cut
+abbrev pub note_boundary : NoteOf → ℕ
+note_boundary note.Plain = 0
+note_boundary (note.Cut c right) = c.value
+note_boundary (note.Merge m) = 0
+
+-- the data of an update; a remove has none
+abbrev pub data_of : {K : ℕ} → Update K → List ℕ
+data_of (Put r) = r.value
+data_of (Remove k) = []
+
+-- the 96 bytes of an update with its note
+unfoldable pub update_bytes : {K : ℕ} → Noted K → List ℕ
+update_bytes u = padded 96 (update_code u.update ∷ note_code u.note ∷ note_attribute u.note ∷ length (data_of u.update)
+    ∷ (bytes_of 4 (note_bucket u.note) ++ (bytes_of 8 (note_boundary u.note) ++ (padded 32 (numbers (key_of u.update)) ++ padded 40 (data_of u.update)))))
+
+-- a batch: the session that wrote it, the place of its first update, and its updates
+pub record Batch (K : ℕ) : Type 0 where
+  pub session : ℕ
+  pub first : ℕ
+  pub updates : List (Noted K)
+
+-- a slot page: how many updates, the session, the place of the first, and the updates
+unfoldable pub slot_page : {K : ℕ} → Batch K → List ℕ
+slot_page b = page (codes "GFJ1" ++ (bytes_of 2 (length b.updates) ++ (0 ∷ 0 ∷ (bytes_of 8 b.session ++ bytes_of 8 b.first)))) (flat_map update_bytes b.updates)

@@ -1,5 +1,0 @@
-use Rattle.std.proofs.Common.{◌<◌, ◌≤◌, ℕ, slice_index}
-use Rattle.grid_types.proofs.region.Region.contains.Given as goal
-
-abbrev pub invariant-loop-a : goal.invariant-loop-a
-invariant-loop-a g l = (k : ℕ) → k < l.a → (slice_index l.self.lo k ≤ slice_index l.at k) × (slice_index l.at k ≤ slice_index l.self.hi k)

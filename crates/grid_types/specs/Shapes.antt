@@ -1,0 +1,51 @@
+-- The shape of a file, and where its pages stand.
+use Rattle.std.specs.Prelude.{ℕ, ◌+◌, ◌*◌, ◌/◌, ◌%◌, Bool, ◌&&◌, nat_le}
+use Rattle.grid_types.specs.declared.shape.Shape.{Shape}
+
+-- a number lies between two others, both included
+abbrev pub is_from_to : ℕ → ℕ → ℕ → Bool
+is_from_to lo hi n = nat_le lo n && nat_le n hi
+
+-- there are 1 to 4 attributes, and a bucket holds 2 to 48 records
+abbrev pub has_lawful_buckets : Shape → Bool
+has_lawful_buckets s = is_from_to 1 4 s.k && is_from_to 2 48 s.capacity
+
+-- there are 8 to 65,536 data pages, and each half of the journal has 1 to 4,000 slots
+abbrev pub has_lawful_pages : Shape → Bool
+has_lawful_pages s = is_from_to 8 65536 s.pages && is_from_to 1 4000 s.slots
+
+-- a scale has at most 1 to 1,000 boundaries, and the directory at most 1 to 1,000,000 cells
+abbrev pub has_lawful_bounds : Shape → Bool
+has_lawful_bounds s = is_from_to 1 1000 s.boundaries && is_from_to 1 1000000 s.cells
+
+-- a shape is lawful where each number is within its limits
+unfoldable pub is_shape : Shape → Bool
+is_shape s = has_lawful_buckets s && (has_lawful_pages s && has_lawful_bounds s)
+
+-- the pages of a table area: two for each of four scales, one for the directory's list, and one for each thousand bucket numbers
+abbrev pub area_pages : Shape → ℕ
+area_pages s = 9 + (s.pages + 999) / 1000
+
+-- a file has two header pages, two table areas, two halves of a gate page and slots, and the data pages
+unfoldable pub file_pages : Shape → ℕ
+file_pages s = 4 + 2 * area_pages s + 2 * s.slots + s.pages
+
+-- the header page of a root: roots take turns
+abbrev pub header_page : ℕ → ℕ
+header_page root = root % 2
+
+-- page i of a table area
+unfoldable pub table_page : Shape → ℕ → ℕ → ℕ
+table_page s area i = 2 + area * area_pages s + i
+
+-- the gate page of a half of the journal
+unfoldable pub gate_page : Shape → ℕ → ℕ
+gate_page s half = 2 + 2 * area_pages s + half * (s.slots + 1)
+
+-- slot i of a half
+unfoldable pub slot_page : Shape → ℕ → ℕ → ℕ
+slot_page s half i = gate_page s half + 1 + i
+
+-- data page i
+unfoldable pub data_page : Shape → ℕ → ℕ
+data_page s i = 4 + 2 * area_pages s + 2 * s.slots + i
