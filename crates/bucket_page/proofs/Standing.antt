@@ -10,7 +10,8 @@ use Rattle.page_fields.specs.Corners.{CornerAt}
 use Rattle.page_fields.proofs.BytesOf.{number-back, length-bytes_of, length-numbers, length-padded}
 use Rattle.page_fields.proofs.Places.{behind, byte_there, part_at, corner_there, one_corner}
 use Rattle.bucket_page.specs.declared.bucket.Bucket.{Bucket}
-use Rattle.bucket_page.specs.Spelling.{row_bytes, head, spelling, IsRow, IsBucket}
+use Rattle.grid_model.specs.Spellings.{row_bytes, bucket_head, bucket_page}
+use Rattle.bucket_page.specs.Spelling.{spelling, IsRow, IsBucket}
 use Rattle.bucket_page.specs.Reading.{RowAt, RowsAt, BucketAt}
 use Rattle.bucket_page.specs.Lawful.{IsLawful}
 
@@ -49,7 +50,7 @@ one_row K page at r s x y =
 
 front_there : (K : ℕ) (page : List ℕ) (b : Bucket K) → page ≡ spelling K b
     → drop 4 page ≡ bytes_of 4 b.number ++ (bytes_of 2 (length b.rows.items) ++ (b.turn ∷ K ∷ 0 ∷ 0 ∷ 0 ∷ 0 ∷ (padded 32 (numbers b.region.lo) ++ (padded 32 (numbers b.region.hi) ++ (replicate 16 0 ++ padded 4000 (flat_map row_bytes b.rows.items))))))
-unfolding spelling head
+unfolding spelling bucket_page bucket_head
 front_there K page b e = ap (drop 4) e ∙ simp append_assoc
 
 rows_there : (K : ℕ) (page zs : List ℕ) (rows : List (Record K)) → K ≤ 4 → ((i : ℕ) (d : Record K) → i < length rows → IsRow K (get_or rows i d)) → drop 96 page ≡ flat_map row_bytes rows ++ zs → RowsAt K page rows

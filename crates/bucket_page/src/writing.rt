@@ -1,7 +1,8 @@
 //! The page of a bucket.
 ghost use Rattle.std.specs.Prelude.{◌≡◌, ◌≤◌, ◌+◌, ◌++◌, take};
 ghost use Rattle.arrayvec.specs.ArrayVec.{array_vec_len};
-ghost use Rattle.bucket_page.specs.Spelling.{row_bytes, head, spelling, IsBucket, Spells};
+ghost use Rattle.grid_model.specs.Spellings.{row_bytes};
+ghost use Rattle.bucket_page.specs.Spelling.{head, spelling, IsBucket, Spells};
 
 use crate::Bucket;
 use grid_types::Record;

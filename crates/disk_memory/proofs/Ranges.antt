@@ -2,7 +2,8 @@
 use Rattle.std.proofs.Common.{◌≡◌, ◌<◌, ◌≤◌, ◌⊎◌, inl, inr, ⊎_elim, ◌+◌, ◌-◌, ◌*◌, ℕ, List, [], ◌∷◌, ◌++◌, length, take, drop, get_or, slice_index, slice_range, refl, sym, ap, ◌∙◌, arith, rules, length-append, append_assoc}
 use Rattle.std.proofs.lemmas.List.{drop-drop, drop_at, length-take, length-take-le, length-drop, get_or-take, get_or-drop, get_or_append_left, get_or-append_right, ext_get_or, places}
 use Rattle.std.proofs.lemmas.Slice.{overwrites}
-use Rattle.disk_trait.specs.Disk.{Agrees, Holds, page_of}
+use Rattle.grid_types.specs.Pages.{page_of}
+use Rattle.disk_trait.specs.Disk.{Agrees, Holds}
 use Rattle.disk_trait.specs.Moments.{AgreesOutside}
 
 pub agrees_same : (at n : ℕ) (c : List ℕ) → Agrees at n c c

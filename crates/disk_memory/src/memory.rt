@@ -2,7 +2,8 @@
 ghost use Rattle.std.specs.Prelude.{◌≡◌, ◌↔◌, ◌⊎◌, List, ℕ, Contains, IsErr, ◌+◌, ◌*◌, ◌%◌, ◌++◌, ◌∷◌, ◌≤◌, [], length, IfOk, OnOk, OnErr};
 ghost use Rattle.disk_trait.specs.Bay.{blank};
 ghost use Rattle.disk_trait.specs.Causes.{HasCause};
-ghost use Rattle.disk_trait.specs.Disk.{Only, Follows, Agrees, Holds, InOnePage, page_of};
+ghost use Rattle.grid_types.specs.Pages.{page_of};
+ghost use Rattle.disk_trait.specs.Disk.{Only, Follows, Agrees, Holds, InOnePage};
 ghost use Rattle.disk_memory.specs.Past.{held};
 
 use crate::history::History;

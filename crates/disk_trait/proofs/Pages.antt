@@ -1,7 +1,8 @@
 -- What stands on a page after a write.
 use Rattle.std.proofs.Common.{◌≡◌, ◌≤◌, ◌+◌, ◌*◌, ℕ, List, ◌++◌, length, take, drop, refl, sym, ap, ◌∙◌}
 use Rattle.std.proofs.lemmas.List.{drop_at, take_at, length-take-le}
-use Rattle.disk_trait.specs.Disk.{Holds, page_of}
+use Rattle.grid_types.specs.Pages.{page_of}
+use Rattle.disk_trait.specs.Disk.{Holds}
 
 -- the bytes that were written stand where they were written
 pub part_written : (old : List ℕ) (at : ℕ) (bytes new : List ℕ) → at ≤ length old → Holds old at bytes new → take (length bytes) (drop at new) ≡ bytes

@@ -1,9 +1,5 @@
 -- What the calls of a disk do to its bytes, and what a crash may do between two syncs.
-use Rattle.std.specs.Prelude.{◌≡◌, ◌⊎◌, ◌+◌, ◌-◌, ◌*◌, ◌/◌, ◌≤◌, ℕ, List, ◌++◌, length, take, drop}
-
--- a page is 4,096 bytes of the image, the first from byte 0 on
-abbrev pub page_of : ℕ → List ℕ → List ℕ
-page_of page image = take 4096 (drop (page * 4096) image)
+use Rattle.std.specs.Prelude.{◌≡◌, ◌⊎◌, ◌+◌, ◌-◌, ◌/◌, ◌≤◌, ℕ, List, ◌++◌, length, take, drop}
 
 -- a write of n bytes from an offset on lies in one page, and inside a disk of this size
 pub record InOnePage (at n size : ℕ) : Type 0 where

@@ -1,7 +1,8 @@
 //! A disk, as its callers see it.
 ghost use Rattle.std.specs.Prelude.{◌≡◌, ◌+◌, ◌*◌, ◌≤◌, ◌↔◌, Bool, List, ℕ, IsTrue, length, OnOk, OnErr};
 ghost use Rattle.disk_trait.specs.Causes.{HasCause};
-ghost use Rattle.disk_trait.specs.Disk.{Only, Follows, Agrees, Holds, Elapses, InOnePage, page_of};
+ghost use Rattle.grid_types.specs.Pages.{page_of};
+ghost use Rattle.disk_trait.specs.Disk.{Only, Follows, Agrees, Holds, Elapses, InOnePage};
 
 use crate::Steps;
 use std::sync::ledger::Ledger;

@@ -7,6 +7,14 @@
 -- told-turn-of-the-other: the turn of the other box after a merge
 -- told-interval-below: interval counts boundaries below, not at most
 -- told-higher-number-survives: the higher number survives a merge
+-- told-parts-of-the-moved-box: the parts of a cut or merge are all, one, or those of another box
+-- told-parts-of-the-refined-directory: a refinement needs the old parts, or one
+-- told-thousand-cells-per-part: the cell at place 1000 lies in part 0
+-- told-seven-tenths-of-ten: the merge bound is 6 or 8 tenths
+-- told-seven-tenths-rounded-down: the merge bound is rounded up
+-- told-cells-after-refinement: the cells before a refinement are compared with M
+-- told-next-attribute-within-cells: only the first attribute with a usable value is tried
+-- told-least-difference: the first existing boundary that divides is taken
 -- No script tells that an existing boundary outside the region is taken: a boundary that divides the box's
 -- records is above the least and at most the greatest of their values, so it lies inside the region.
 -- No script tells that of equal rank the last is taken: two candidates of equal rank are one and the same cut.
@@ -53,3 +61,43 @@ told-higher-number-survives : prints (record { k = 4; capacity = 2; pages = 64; 
     ≡ Ok (codes "client 1\n@1 new\n@2 new\n@3 new\n@4 new\n@5 new\n@6 new\n@7 new\n@8 new\n@9 new\n@10 new\n@11 new\n@12 new\n@13 new\n@14 new\n@15 new\n@16 new\n@17 new\n@18 new\n@19 new\n@20 new\n@21 new\n@21 rooted\n@22 gone -\n@23 gone -\n@24 gone -\n@25 gone -\n@25 stat records 17 cells 1080 buckets 17 free 40\nfront 25\n")
 unfolding computing
 told-higher-number-survives = refl
+
+told-parts-of-the-moved-box : prints (record { k = 4; capacity = 2; pages = 28; slots = 64; boundaries = 1000; cells = 1000000 }) (codes "put 1,1,1,1 -\nput 2,2,2,2 -\nput 3,3,3,3 -\nput 4,4,4,4 -\nput 5,5,5,5 -\nput 6,6,6,6 -\nput 7,7,7,7 -\nput 8,8,8,8 -\nput 9,9,9,9 -\nput 10,10,10,10 -\nput 11,11,11,11 -\nput 12,12,12,12 -\nput 13,13,13,13 -\nput 14,14,14,14 -\nput 15,15,15,15 -\nput 16,16,16,16 -\nput 17,17,17,17 -\nput 18,18,18,18 -\nput 19,19,19,19 -\nput 20,20,20,20 -\nput 21,21,21,21 -\nput 21,21,13,21 -\ncheckpoint\nremove 19,19,19,19\nput 8,17,22,22 -\nremove 20,20,20,20\nremove 21,21,21,21\nremove 17,17,17,17\nstat\nput 15,5,15,15 -\nput 20,3,20,20 -\nput 9,17,17,22 -\nput 22,21,12,22 -\nstat\n")
+    ≡ Ok (codes "client 1\n@1 new\n@2 new\n@3 new\n@4 new\n@5 new\n@6 new\n@7 new\n@8 new\n@9 new\n@10 new\n@11 new\n@12 new\n@13 new\n@14 new\n@15 new\n@16 new\n@17 new\n@18 new\n@19 new\n@20 new\n@21 new\n@22 new\n@22 rooted\n@23 gone -\n@24 new\n@25 gone -\n@26 gone -\n@27 gone -\n@27 stat records 19 cells 1080 buckets 17 free 3\n@28 new\n@29 new\n@30 new\n@31 new\n@31 stat records 23 cells 1080 buckets 20 free 1\nfront 31\n")
+unfolding computing
+told-parts-of-the-moved-box = refl
+
+told-parts-of-the-refined-directory : prints (record { k = 4; capacity = 2; pages = 26; slots = 64; boundaries = 1000; cells = 1000000 }) (codes "put 1,1,1,1 -\nput 2,2,2,2 -\nput 3,3,3,3 -\nput 4,4,4,4 -\nput 5,5,5,5 -\nput 6,6,6,6 -\nput 7,7,7,7 -\nput 8,8,8,8 -\nput 9,9,9,9 -\nput 10,10,10,10 -\nput 11,11,11,11 -\nput 12,12,12,12 -\nput 13,13,13,13 -\nput 14,14,14,14 -\nput 15,15,15,15 -\nput 16,16,16,16 -\nput 17,17,17,17 -\nput 18,18,18,18 -\nput 19,19,19,19 -\nput 17,17,13,15 -\nput 15,15,12,15 -\nremove 17,17,13,15\nput 21,17,17,18 -\nremove 15,15,15,15\nstat\n")
+    ≡ Ok (codes "client 1\n@1 new\n@2 new\n@3 new\n@4 new\n@5 new\n@6 new\n@7 new\n@8 new\n@9 new\n@10 new\n@11 new\n@12 new\n@13 new\n@14 new\n@15 new\n@16 new\n@17 new\n@18 new\n@19 new\n@20 new\n@21 new\n@22 gone -\n@23 new\n@24 gone -\n@24 stat records 20 cells 1050 buckets 20 free 1\nfront 24\n")
+unfolding computing
+told-parts-of-the-refined-directory = refl
+
+told-thousand-cells-per-part : prints (record { k = 4; capacity = 2; pages = 64; slots = 64; boundaries = 1000; cells = 1000000 }) (codes "put 0,1,1,1 -\nput 0,2,2,2 -\nput 0,3,3,3 -\nput 0,4,4,4 -\nput 0,5,5,5 -\nput 0,6,6,6 -\nput 0,7,7,7 -\nput 0,8,8,8 -\nput 0,9,9,9 -\nput 0,10,10,10 -\nput 0,11,11,11 -\nput 0,12,12,12 -\nput 0,13,13,13 -\nput 0,14,14,14 -\nput 0,1,20,1 -\nput 0,1,20,20 -\nput 0,1,1,20 -\nput 0,1,1,21 -\nput 10,1,1,1 -\nput 20,1,1,1 -\nput 30,1,1,1 -\nput 40,1,1,1 -\nput 50,1,1,1 -\nput 60,1,1,1 -\nput 70,1,1,1 -\nput 80,1,1,1 -\nput 90,1,1,1 -\ncheckpoint\nremove 80,1,1,1\nremove 90,1,1,1\nstat\nremove 60,1,1,1\nstat\n")
+    ≡ Ok (codes "client 1\n@1 new\n@2 new\n@3 new\n@4 new\n@5 new\n@6 new\n@7 new\n@8 new\n@9 new\n@10 new\n@11 new\n@12 new\n@13 new\n@14 new\n@15 new\n@16 new\n@17 new\n@18 new\n@19 new\n@20 new\n@21 new\n@22 new\n@23 new\n@24 new\n@25 new\n@26 new\n@27 new\n@27 rooted\n@28 gone -\n@29 gone -\n@29 stat records 25 cells 1125 buckets 22 free 37\n@30 gone -\n@30 stat records 24 cells 1125 buckets 21 free 35\nfront 30\n")
+unfolding computing
+told-thousand-cells-per-part = refl
+
+told-seven-tenths-of-ten : prints (record { k = 1; capacity = 10; pages = 64; slots = 64; boundaries = 1000; cells = 1000000 }) (codes "put 1 -\nput 2 -\nput 3 -\nput 4 -\nput 5 -\nput 6 -\nput 7 -\nput 8 -\nput 9 -\nput 10 -\nput 11 -\nremove 1\nremove 2\nremove 3\nstat\nremove 4\nstat\nput 12 -\nput 13 -\nput 14 -\nput 15 -\nstat\n")
+    ≡ Ok (codes "client 1\n@1 new\n@2 new\n@3 new\n@4 new\n@5 new\n@6 new\n@7 new\n@8 new\n@9 new\n@10 new\n@11 new\n@12 gone -\n@13 gone -\n@14 gone -\n@14 stat records 8 cells 2 buckets 2 free 59\n@15 gone -\n@15 stat records 7 cells 2 buckets 1 free 60\n@16 new\n@17 new\n@18 new\n@19 new\n@19 stat records 11 cells 2 buckets 2 free 59\nfront 19\n")
+unfolding computing
+told-seven-tenths-of-ten = refl
+
+told-seven-tenths-rounded-down : prints (record { k = 1; capacity = 4; pages = 64; slots = 64; boundaries = 1000; cells = 1000000 }) (codes "put 1 -\nput 2 -\nput 3 -\nput 4 -\nput 5 -\nremove 1\nremove 5\nstat\nremove 3\nstat\n")
+    ≡ Ok (codes "client 1\n@1 new\n@2 new\n@3 new\n@4 new\n@5 new\n@6 gone -\n@7 gone -\n@7 stat records 3 cells 2 buckets 2 free 59\n@8 gone -\n@8 stat records 2 cells 2 buckets 1 free 60\nfront 8\n")
+unfolding computing
+told-seven-tenths-rounded-down = refl
+
+told-cells-after-refinement : prints (record { k = 2; capacity = 2; pages = 64; slots = 8; boundaries = 1000; cells = 5 }) (codes "put 3,7 01\nput 5,1 02\nput 9,9 03\nput 6,4 04\nput 7,6 05\nstat\n")
+    ≡ Ok (codes "client 1\n@1 new\n@2 new\n@3 new\n@4 new\nnocut cells 4 boundaries 2\n@4 stat records 4 cells 4 buckets 3 free 58\nfront 4\n")
+unfolding computing
+told-cells-after-refinement = refl
+
+told-next-attribute-within-cells : prints (record { k = 2; capacity = 2; pages = 64; slots = 8; boundaries = 1000; cells = 5 }) (codes "put 1,1 -\nput 1,2 -\nput 1,3 -\nput 1,4 -\nput 2,5 -\nput 2,6 -\nstat\n")
+    ≡ Ok (codes "client 1\n@1 new\n@2 new\n@3 new\n@4 new\n@5 new\n@6 new\n@6 stat records 6 cells 5 buckets 5 free 56\nfront 6\n")
+unfolding computing
+told-next-attribute-within-cells = refl
+
+told-least-difference : prints (record { k = 3; capacity = 3; pages = 64; slots = 3; boundaries = 1000; cells = 1000000 }) (codes "put 4,0,4 e88f\nput 3,4,1 151e\nput 3,4,0 a7\nput 0,2,2 b9\nput 2,1,2 -\nput 2,2,1 -\nput 1,3,1 7c\nput 2,4,2 f0\nput 4,4,3 1a43\nput 3,4,4 9fb5\nstat\n")
+    ≡ Ok (codes "client 1\n@1 new\n@2 new\n@3 new\n@4 new\n@5 new\n@6 new\n@7 new\n@8 new\n@9 new\n@10 new\n@10 stat records 10 cells 8 buckets 5 free 57\nfront 10\n")
+unfolding computing
+told-least-difference = refl

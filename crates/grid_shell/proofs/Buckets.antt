@@ -4,7 +4,7 @@ use Rattle.std.proofs.lemmas.List.{length-replicate}
 use Rattle.grid_types.specs.Keys.{IsKey}
 use Rattle.grid_types.specs.Regions.{Within}
 use Rattle.grid_model.specs.Tables.{Table, with_data, entries_of}
-use Rattle.disk_trait.specs.Disk.{page_of}
+use Rattle.grid_types.specs.Pages.{page_of}
 use Rattle.bucket_page.specs.declared.bucket.Bucket.{Bucket}
 use Rattle.bucket_page.specs.Spelling.{spelling, IsBucket}
 use Rattle.grid_shell.specs.Standing.{StandsFor}

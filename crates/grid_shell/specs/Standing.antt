@@ -7,7 +7,7 @@ use Rattle.grid_types.specs.declared.refusal.Refusal.TheVariants.{ReadFault, Wri
 use Rattle.grid_model.specs.Tables.{Table, entries_of}
 use Rattle.grid_model.specs.OneBucket.{Lone}
 use Rattle.disk_trait.specs.Causes.{Rose}
-use Rattle.disk_trait.specs.Disk.{page_of}
+use Rattle.grid_types.specs.Pages.{page_of}
 use Rattle.bucket_page.specs.declared.bucket.Bucket.{Bucket}
 use Rattle.bucket_page.specs.Spelling.{Spells}
 

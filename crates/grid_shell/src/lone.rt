@@ -7,7 +7,7 @@ ghost use Rattle.grid_model.specs.OneBucket.{takes};
 ghost use Rattle.disk_trait.specs.Causes.{HasCause, Rose};
 ghost use Rattle.bucket_page.specs.declared.bucket.Bucket.{Bucket};
 ghost use Rattle.bucket_page.specs.Spelling.{IsBucket, spelling};
-ghost use Rattle.disk_trait.specs.Disk.{page_of};
+ghost use Rattle.grid_types.specs.Pages.{page_of};
 ghost use Rattle.grid_shell.specs.Standing.{HasBucket, StandsFor, CanRefuse};
 
 use arrayvec::ArrayVec;

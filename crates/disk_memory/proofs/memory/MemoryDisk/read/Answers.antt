@@ -1,5 +1,5 @@
 use Rattle.std.proofs.Common.{◌∙◌, ap}
-use Rattle.disk_trait.specs.Disk.{page_of}
+use Rattle.grid_types.specs.Pages.{page_of}
 use Rattle.disk_memory.proofs.Ranges.{page_slice}
 use Rattle.disk_memory.proofs.memory.MemoryDisk.read.Goals as goal
 
