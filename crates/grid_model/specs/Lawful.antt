@@ -7,7 +7,7 @@ use Rattle.grid_types.specs.declared.note.NoteOf.{NoteOf}
 use Rattle.grid_types.specs.declared.note.NoteOf.TheVariants as note
 use Rattle.grid_types.specs.declared.note.Noted.{Noted}
 use Rattle.grid_types.specs.Keys.{IsKey}
-use Rattle.grid_model.specs.Lists.{product}
+use Rattle.grid_model.specs.Lists.{product, AreDistinct}
 use Rattle.grid_model.specs.Scales.{is_scale}
 use Rattle.grid_model.specs.Notes.{key_of}
 use Rattle.grid_model.specs.Spellings.{RootFields, Batch, data_of}
@@ -47,10 +47,6 @@ pub record Area : Type 0 where
 -- the data pages that a table names
 abbrev pub pages_named : List ℕ → List ℕ
 pages_named table = filter (λ p. not (p == nowhere)) table
-
--- no number stands twice in a list
-abbrev pub AreDistinct : List ℕ → Type 0
-AreDistinct ns = (i j n : ℕ) → slice_get ns i ≡ Some n → slice_get ns j ≡ Some n → i ≡ j
 
 -- a table area is lawful for a root: the numbers of boundaries, parts and buckets are the root's, scales ascend, and each data page is one, and named once
 pub record IsAreaOf (shape : Shape) (r : RootFields) (a : Area) : Type 0 where

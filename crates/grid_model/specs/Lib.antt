@@ -23,6 +23,8 @@ pub mod TableLaws
 pub mod ScaleLaws
 pub mod CutLaws
 pub mod LayoutLaws
+pub mod LoneLaws
+pub mod ScriptLaws
 pub mod OneBucket
 pub mod PointScript
 pub mod PointText

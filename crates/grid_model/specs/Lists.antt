@@ -1,5 +1,5 @@
 -- Words on lists that the other definitions use.
-use Rattle.std.specs.Prelude.{ℕ, ◌+◌, ◌-◌, ◌*◌, ◌==◌, List, [], ◌∷◌, map, flat_map, Bool, cond, Option, Some, None}
+use Rattle.std.specs.Prelude.{ℕ, ◌≤◌, length, filter, ◌+◌, ◌-◌, ◌*◌, ◌==◌, List, [], ◌∷◌, map, flat_map, Bool, cond, Option, Some, None}
 use Rattle.std.specs.Ordering.{is_lt, nat_cmp}
 use Rattle.std.specs.Cmp.Lexicographic.{slice_cmp}
 use Rattle.std.specs.List.{range_with_len, reduce, list_any}
@@ -15,6 +15,10 @@ from_to a b = range_with_len a (b + 1 - a)
 -- a number is one of these
 abbrev pub is_among : List ℕ → ℕ → Bool
 is_among ns n = list_any (λ m. m == n) ns
+
+-- no number stands twice in a list: each stands in it at most once
+abbrev pub AreDistinct : List ℕ → Type 0
+AreDistinct ns = (n : ℕ) → length (filter (λ m. m == n) ns) ≤ 1
 
 -- each item with the other at its place, by f
 abbrev pub zip_with : {X Y Z : Type 0} → (X → Y → Z) → List X → List Y → List Z

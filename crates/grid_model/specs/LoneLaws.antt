@@ -1,0 +1,63 @@
+-- What the definition of the lone caller promises.
+use Rattle.std.specs.Prelude.{◌≡◌, ◌⊎◌, ◌<◌, ◌≤◌, ◌+◌, ℕ, List, [], length, slice_get, Some, IsSome, IsTrue, All, ⊤}
+use Rattle.grid_types.specs.declared.shape.Shape.{Shape}
+use Rattle.grid_types.specs.declared.request.Request.{Request}
+use Rattle.grid_types.specs.declared.request.Request.TheVariants as ask
+use Rattle.grid_types.specs.declared.request.Reply.{Reply}
+use Rattle.grid_types.specs.declared.update.Update.{Update}
+use Rattle.grid_types.specs.declared.note.NoteOf.{NoteOf}
+use Rattle.grid_types.specs.Keys.{IsKey}
+use Rattle.grid_types.specs.Shapes.{is_shape}
+use Rattle.grid_model.specs.Lists.{is_among, AreDistinct}
+use Rattle.grid_model.specs.Cells.{parts}
+use Rattle.grid_model.specs.Tables.{Table}
+use Rattle.grid_model.specs.Layouts.{Box, Layout, box}
+use Rattle.grid_model.specs.LayoutLaws.{StandsOver, Fits}
+use Rattle.grid_model.specs.Histories.{History, Layouts, front, state_at, layout_at, IsNoted}
+use Rattle.grid_model.specs.Answers.{IsLegal, IsRefusal}
+use Rattle.grid_model.specs.Lone.{State, free, made, opened, published, how_many, lone, answers, afterwards}
+
+-- a state of a file of that shape: its layout is sound for its table, what is rooted is among its owners, each once, and boxes, parts and kept pages fit
+pub record IsState {K : ℕ} (shape : Shape) (s : State K) : Type 0 where
+  pub stands : StandsOver shape s.layout s.table
+  pub rooted_buckets : (n : ℕ) → IsTrue (is_among s.rooted.buckets n) → IsSome (box s.layout n)
+  pub distinct_buckets : AreDistinct s.rooted.buckets
+  pub rooted_parts : (p : ℕ) → IsTrue (is_among s.rooted.parts p) → p < parts s.layout.scales
+  pub distinct_parts : AreDistinct s.rooted.parts
+  pub pages : length s.layout.boxes + parts s.layout.scales + s.kept ≤ shape.pages
+
+-- a request about a key names one of K numbers
+abbrev pub HasKey : {K : ℕ} → Request K → Type 0
+HasKey {K} (ask.Put r) = IsKey K r.key.at
+HasKey {K} (ask.Remove k) = IsKey K k.at
+HasKey {K} (ask.Get k) = IsKey K k.at
+HasKey (ask.List q) = ⊤
+HasKey (ask.Count q) = ⊤
+HasKey ask.Stat = ⊤
+HasKey ask.Checkpoint = ⊤
+
+-- a history of a caller's requests: it begins with a state, ends with another, each note is lawful where it stands, and each reply is a legal answer in it or a refusal
+pub record IsHistoryOf {K : ℕ} (shape : Shape) (caller : ℕ) (s : State K) (requests : List (Request K)) (h : History K) (ls : Layouts K) : Type 0 where
+  pub from : h.from ≡ s.front
+  pub base : h.base ≡ s.table
+  pub first : ls.first ≡ s.layout
+  pub noted : IsNoted shape h ls
+  pub front_is : front h ≡ (afterwards shape s requests).front
+  pub table : state_at h (front h) ≡ (afterwards shape s requests).table
+  pub layout : layout_at h ls (front h) ≡ (afterwards shape s requests).layout
+  pub legal : (i : ℕ) (r : Request K) (reply : Reply K) → slice_get requests i ≡ Some r → slice_get (answers shape s requests) i ≡ Some reply → IsLegal shape h ls caller r reply ⊎ IsRefusal reply
+
+-- the requests of a lone caller make a history in which its answers are legal
+pub record MakesHistory {K : ℕ} (shape : Shape) (caller : ℕ) (s : State K) (requests : List (Request K)) : Type 0 where
+  pub history : History K
+  pub layouts : Layouts K
+  pub is_history : IsHistoryOf shape caller s requests history layouts
+
+-- a new file and one that was opened have a state, each request leaves one, a lone caller's answers are legal in the history that it makes, and the free pages are those that neither a box nor a part nor the root has
+pub record IsLegalAlone (K : ℕ) : Type 0 where
+  pub made : (shape : Shape) → IsTrue (is_shape shape) → shape.k ≡ K → IsState shape (made K)
+  pub opened : (shape : Shape) (t : Table) (L : Layout K) (n : ℕ) → StandsOver shape L t → Fits shape L → IsState shape (opened t L n)
+  pub leaves : (shape : Shape) (s : State K) (r : Request K) → IsState shape s → HasKey r → IsState shape (lone shape s r).state
+  pub legal : (shape : Shape) (caller : ℕ) (s : State K) (requests : List (Request K)) → IsState shape s → ((i : ℕ) (r : Request K) → slice_get requests i ≡ Some r → HasKey r) → MakesHistory shape caller s requests
+  pub free : (shape : Shape) (s : State K) → IsState shape s → free shape s + length s.layout.boxes + parts s.layout.scales + s.kept ≡ shape.pages
+  pub kept : (s : State K) (e : ℕ × Box K) (u : Update K) (n : NoteOf) → (published e u n s).kept + how_many (published e u n s).rooted ≡ s.kept + how_many s.rooted
