@@ -14,16 +14,16 @@ use Rattle.grid_types.specs.declared.update.Update.TheVariants.{Put, Remove}
 use Rattle.grid_types.specs.Keys.{key_cmp}
 use Rattle.grid_model.specs.Tables.{Table, IsTable, get, with_data, without, effect}
 
-one_key : IsAntisymmetric key_cmp
+pub one_key : IsAntisymmetric key_cmp
 one_key = slice_cmp-IsAntisymmetric nat_cmp-IsAntisymmetric
 
 -- a test that an ordering answers Equal is true only there
-equal_order : (o : Ordering) → is_eq o ≡ true → o ≡ Equal
+pub equal_order : (o : Ordering) → is_eq o ≡ true → o ≡ Equal
 equal_order Less e = absurd (subst T (sym e) tt)
 equal_order Equal e = refl
 equal_order Greater e = absurd (subst T (sym e) tt)
 
-keys_differ : (k q : List ℕ) → k ≢ q → eq_by_cmp key_cmp k q ≡ false
+pub keys_differ : (k q : List ℕ) → k ≢ q → eq_by_cmp key_cmp k q ≡ false
 keys_differ k q differ = by (eq_by_cmp key_cmp k q) refl
   where
     by : (b : Bool) → eq_by_cmp key_cmp k q ≡ b → b ≡ false

@@ -1,0 +1,47 @@
+-- Entries by number: how many there are after a put, and which test tells two numbers apart.
+use Rattle.std.proofs.Common.{◌≡◌, ◌≢◌, ◌<◌, ◌≤◌, ◌+◌, ◌==◌, ◌||◌, ℕ, min, max, Bool, true, false, cond, not, T, List, [], ◌∷◌, length, Some, None, IsSome, refl, sym, ap, ◌∙◌, arith, true≢false, eqb-true, eq-eqb, nat_cmp, is_eq}
+use Rattle.std.specs.Ordering.{eq_by_cmp}
+use Rattle.std.specs.Option.{is_some}
+use Rattle.std.specs.Cmp.{nat_cmp_total, tied_itself}
+use Rattle.std.specs.FinMap.{nat_cmp-IsAntisymmetric}
+use Rattle.std.specs.FinMap.Entries.{find, put, where_key, is_sorted, length-put, length_without}
+use Rattle.grid_model.proofs.TableLaws.{equal_order}
+
+pub same-number : (m n : ℕ) → eq_by_cmp nat_cmp m n ≡ true → m ≡ n
+same-number m n e = nat_cmp-IsAntisymmetric m n (equal_order (nat_cmp m n) e)
+
+pub itself : (n : ℕ) → eq_by_cmp nat_cmp n n ≡ true
+itself n = ap is_eq (tied_itself nat_cmp_total n)
+
+-- the test of equality and the order tell the same numbers apart
+pub cmp-test : (a m : ℕ) → (a == m) ≡ eq_by_cmp nat_cmp m a
+cmp-test a m = by (a == m) refl (eq_by_cmp nat_cmp m a) refl
+  where
+    by : (s : Bool) → (a == m) ≡ s → (t : Bool) → eq_by_cmp nat_cmp m a ≡ t → s ≡ t
+    by true e true f = refl
+    by true e false f = absurd (true≢false (sym (itself m) ∙ ap (eq_by_cmp nat_cmp m) (sym (eqb-true a m e)) ∙ f))
+    by false e true f = absurd (true≢false (sym (eq-eqb a m (sym (same-number m a f))) ∙ e))
+    by false e false f = refl
+
+pub cmp-apart : (a m : ℕ) → (a == m) ≡ false → eq_by_cmp nat_cmp m a ≡ false
+cmp-apart a m e = sym (cmp-test a m) ∙ e
+
+some-or-more : (t : Bool) (n : ℕ) → cond t n (n + 1) ≤ n + 1
+some-or-more true n = omega arith
+some-or-more false n = omega arith
+
+module _ {X : Type 0} where
+  -- a put makes one entry more at most
+  pub put-few : (k : ℕ) (v : X) (es : List (ℕ × X)) → T (is_sorted nat_cmp es) → length (put nat_cmp k v es) ≤ length es + 1
+  put-few k v es s = omega (arith, length-put nat_cmp nat_cmp_total k v es s, some-or-more (is_some (find nat_cmp k es)) (length es))
+
+  -- and none where the number has an entry
+  pub put-there : (k : ℕ) (v : X) (es : List (ℕ × X)) → T (is_sorted nat_cmp es) → IsSome (find nat_cmp k es) → length (put nat_cmp k v es) ≡ length es
+  put-there k v es s h = length-put nat_cmp nat_cmp_total k v es s ∙ ap (λ t. cond t (length es) (length es + 1)) h
+
+  -- one entry fewer without a number that has one
+  pub without-one : (k : ℕ) (es : List (ℕ × X)) → T (is_sorted nat_cmp es) → IsSome (find nat_cmp k es) → length (where_key nat_cmp (λ x. not (x == k)) es) + 1 ≡ length es
+  without-one k es s h =
+      let same : where_key nat_cmp (λ x. not (x == k)) es ≡ where_key nat_cmp (λ x. not (eq_by_cmp nat_cmp k x)) es = ap (λ p. where_key nat_cmp p es) (λ i x. not (cmp-test x k i)) in
+      let all : cond true 1 0 + length (where_key nat_cmp (λ x. not (eq_by_cmp nat_cmp k x)) es) ≡ length es = ap (λ t. cond t 1 0 + length (where_key nat_cmp (λ x. not (eq_by_cmp nat_cmp k x)) es)) (sym h) ∙ length_without nat_cmp nat_cmp_total k es s in
+      omega (arith, ap length same, all)
