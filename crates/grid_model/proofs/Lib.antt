@@ -6,3 +6,7 @@ pub mod Numbered
 pub mod Holders
 pub mod Swapping
 pub mod States
+pub mod Prepending
+pub mod Telling
+pub mod Reading
+pub mod Printing

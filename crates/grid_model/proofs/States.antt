@@ -150,6 +150,17 @@ pub after-there : {K : ℕ} (L : Layout K) (k : List ℕ) (e : ℕ × Box K) (n 
 unfolding after
 after-there L k e n q = ap (λ o. option_map_or (λ x. after_at L x n) o L) q
 
+module _ {K : ℕ} (shape : Shape) where
+  -- the note that a remove takes is lawful
+  pub remove-lawful : (s : State K) (e : ℕ × Box K) (k : Key K) → IsSome (get s.table k.at) → (ms : List NoteOf) → ((n : NoteOf) → Contains ms n → Contains (merges shape s.layout s.table k.at) n)
+      → IsLawful shape s.layout s.table (Remove k) (remove_note shape s e (Remove k) ms)
+  remove-lawful s e k some [] all = (some, inl refl)
+  remove-lawful s e k some (m ∷ ms) all = by (nat_lt (free shape s) (need s.layout e (Remove k) m))
+    where
+      by : (t : Bool) → IsLawful shape s.layout s.table (Remove k) (cond t note.Plain m)
+      by true = (some, inl refl)
+      by false = (some, inr (all m (zero, omega arith, refl)))
+
 module _ {K : ℕ} (shape : Shape) (keeps : KeepsSound K) (least : IsLeastUnused K) (merging : MergesTwo K) where
   -- a lawful note swaps owners
   swaps : (s : State K) (e : ℕ × Box K) (u : Update K) (n : NoteOf) → IsState shape s → holder s.layout (key_of u) ≡ Some e → IsLawful shape s.layout s.table u n
@@ -215,16 +226,6 @@ module _ {K : ℕ} (shape : Shape) (keeps : KeepsSound K) (least : IsLeastUnused
       by true = claimed-state (root s) e u n (need s.layout e u n) (root-state shape s h) k q l (omega arith)
       by false = claimed-state s e u n (need s.layout e u n) h k q l (omega arith)
 
-  -- the note that a remove takes is lawful
-  remove-lawful : (s : State K) (e : ℕ × Box K) (k : Key K) → IsSome (get s.table k.at) → (ms : List NoteOf) → ((n : NoteOf) → Contains ms n → Contains (merges shape s.layout s.table k.at) n)
-      → IsLawful shape s.layout s.table (Remove k) (remove_note shape s e (Remove k) ms)
-  remove-lawful s e k some [] all = (some, inl refl)
-  remove-lawful s e k some (m ∷ ms) all = by (nat_lt (free shape s) (need s.layout e (Remove k) m))
-    where
-      by : (t : Bool) → IsLawful shape s.layout s.table (Remove k) (cond t note.Plain m)
-      by true = (some, inl refl)
-      by false = (some, inr (all m (zero, omega arith, refl)))
-
   held-state : (s : State K) (u : Update K) (e : ℕ × Box K) → IsState shape s → IsKey K (key_of u) → holder s.layout (key_of u) ≡ Some e → IsState shape (update_at shape s u e).state
   held-state s (Put r) e h k q = by (put_note shape s.layout s.table r.key.at) refl
     where
@@ -235,7 +236,7 @@ module _ {K : ℕ} (shape : Shape) (keeps : KeepsSound K) (least : IsLeastUnused
     where
       by : (o : Option (List ℕ)) → get s.table d.at ≡ o → IsState shape (remove_found shape s e (Remove d) o).state
       by None p = h
-      by (Some x) p = change-state s e (Remove d) (remove_note shape s e (Remove d) (merges shape s.layout s.table d.at)) h k q (remove-lawful s e d (ap is_some p) (merges shape s.layout s.table d.at) (λ n c. c))
+      by (Some x) p = change-state s e (Remove d) (remove_note shape s e (Remove d) (merges shape s.layout s.table d.at)) h k q (remove-lawful shape s e d (ap is_some p) (merges shape s.layout s.table d.at) (λ n c. c))
 
   updated-state : (s : State K) (u : Update K) → IsState shape s → IsKey K (key_of u) → IsState shape (updated shape s u).state
   unfolding updated

@@ -1,0 +1,127 @@
+-- A history with one more entry in front: later places have the same tables and layouts, and later answers stay legal.
+use Rattle.std.proofs.Common.{◌≡◌, ◌<◌, ◌≤◌, ◌+◌, ◌-◌, ℕ, zero, suc, Bool, true, false, cond, List, [], ◌∷◌, map, take, fold, zip, length, Option, Some, None, refl, sym, ap, subst, ◌∙◌, arith, true≢false, slice_get, nat_lt, ltb-true, lt-ltb}
+use Rattle.std.specs.Option.{is_some}
+use Rattle.grid_types.specs.declared.shape.Shape.{Shape}
+use Rattle.grid_types.specs.declared.shape.Stat.{Stat}
+use Rattle.grid_types.specs.declared.update.Update.{Update}
+use Rattle.grid_types.specs.declared.update.Update.TheVariants.{Put, Remove}
+use Rattle.grid_types.specs.declared.update.Entry.{Entry}
+use Rattle.grid_types.specs.declared.note.NoteOf.{NoteOf}
+use Rattle.grid_types.specs.declared.request.Request.{Request}
+use Rattle.grid_types.specs.declared.request.Request.TheVariants as ask
+use Rattle.grid_types.specs.declared.request.Reply.{Reply}
+use Rattle.grid_types.specs.declared.request.Reply.TheVariants as told
+use Rattle.grid_model.specs.Tables.{Table, get}
+use Rattle.grid_model.specs.Layouts.{Layout}
+use Rattle.grid_model.specs.Listings.{rows}
+use Rattle.grid_model.specs.Lone.{record_of}
+use Rattle.grid_model.specs.Notes.{IsLawful}
+use Rattle.grid_model.specs.Histories.{History, Layouts, IsPlace, IsNoted, front, until, entry_at, entry_effect, noted_effect, state_at, layout_at}
+use Rattle.grid_model.proofs.Holders.{some-is}
+use Rattle.grid_model.specs.Answers.{IsAnswer, IsReading, IsUpdate, IsRemoval, IsCounted, IsLegal, SaysOfLayout}
+
+same-lawful : {K : ℕ} (shape : Shape) {L M : Layout K} {t s : Table} {u v : Update K} {n m : NoteOf} → L ≡ M → t ≡ s → u ≡ v → n ≡ m → IsLawful shape L t u n → IsLawful shape M s v m
+same-lawful shape {L} {M} {t} {s} {u} {v} {n} {m} p q r o l =
+    subst (λ x. IsLawful shape M s v x) o (subst (λ x. IsLawful shape M s x n) r (subst (λ x. IsLawful shape M x u n) q (subst (λ x. IsLawful shape x t u n) p l)))
+
+none-before : (a m : ℕ) → m ≡ a → m - a ≡ 0
+none-before a m e = omega (arith, e)
+
+-- a history's table is the base table where it begins, and its layout the first one
+pub start-state : {K : ℕ} (h : History K) (m : ℕ) → m ≡ h.from → state_at h m ≡ h.base
+unfolding state_at
+start-state h m e = ap (λ j. fold entry_effect h.base (take j h.entries)) (none-before h.from m e)
+
+pub start-layout : {K : ℕ} (h : History K) (ls : Layouts K) (m : ℕ) → m ≡ h.from → layout_at h ls m ≡ ls.first
+unfolding layout_at
+start-layout h ls m e = ap (λ j. fold noted_effect ls.first (zip (take j h.entries) ls.notes)) (none-before h.from m e)
+
+module _ {K : ℕ} (h : History K) (ls : Layouts K) (begin : ℕ) (base : Table) (first : Layout K) (e : Entry K) (n : NoteOf)
+    (from : h.from ≡ begin + 1) (table : h.base ≡ entry_effect base e) (layout : ls.first ≡ noted_effect first (e, n)) where
+  -- the history with the entry in front
+  abbrev pub longer : History K
+  longer = record { from = begin; base = base; entries = e ∷ h.entries }
+
+  abbrev pub longer-layouts : Layouts K
+  longer-layouts = record { first = first; notes = n ∷ ls.notes }
+
+  later : (m : ℕ) → h.from ≤ m → m - begin ≡ suc (m - h.from)
+  later m l = omega (arith, l, from)
+
+  pub state-later : (m : ℕ) → h.from ≤ m → state_at longer m ≡ state_at h m
+  unfolding state_at
+  state-later m l =
+      ap (λ j. fold entry_effect base (take j (e ∷ h.entries))) (later m l)
+      ∙ ap (λ t. fold entry_effect t (take (m - h.from) h.entries)) (sym table)
+
+  pub layout-later : (m : ℕ) → h.from ≤ m → layout_at longer longer-layouts m ≡ layout_at h ls m
+  unfolding layout_at
+  layout-later m l =
+      ap (λ j. fold noted_effect first (zip (take j (e ∷ h.entries)) (n ∷ ls.notes))) (later m l)
+      ∙ ap (λ t. fold noted_effect t (zip (take (m - h.from) h.entries) ls.notes)) (sym layout)
+
+  earlier : (m : ℕ) → h.from < m → m - begin - 1 ≡ suc (m - h.from - 1)
+  earlier m l = omega (arith, l, from)
+
+  entry-later : (m : ℕ) → h.from < m → entry_at longer m ≡ entry_at h m
+  entry-later m l =
+      ap (λ t. cond t (slice_get (e ∷ h.entries) (m - begin - 1)) None) (lt-ltb begin m (omega (arith, l, from)))
+      ∙ ap (λ j. slice_get (e ∷ h.entries) j) (earlier m l)
+      ∙ sym (ap (λ t. cond t (slice_get h.entries (m - h.from - 1)) None) (lt-ltb h.from m l))
+
+  place-later : (m : ℕ) → IsPlace h m → IsPlace longer m
+  place-later m p = record { not_before = omega (arith, p.not_before, from); not_after = omega (arith, p.not_after, from) }
+
+  reading-later : {V : Type 0} (at : ℕ) (value : V) (of : Table → V) → IsReading h at value of → IsReading longer at value of
+  reading-later at value of r = record { place = place-later at r.place; answer = r.answer ∙ ap of (sym (state-later at r.place.not_before)) }
+
+  update-later : (caller : ℕ) (u : Update K) (k : List ℕ) (at : ℕ) (value : Option (List ℕ)) → IsUpdate h caller u k at value → IsUpdate longer caller u k at value
+  update-later caller u k at value r = by (nat_lt h.from at) refl
+    where
+      by : (t : Bool) → nat_lt h.from at ≡ t → IsUpdate longer caller u k at value
+      by true p =
+          let l : h.from < at = ltb-true h.from at p in
+          record { there = entry-later at l ∙ r.there; answer = r.answer ∙ ap (λ t. get t k) (sym (state-later (at - 1) (omega (arith, l)))) }
+      by false p = absurd (true≢false (sym (ap is_some (sym (ap (λ t. cond t (slice_get h.entries (at - h.from - 1)) None) p) ∙ r.there))))
+
+  removal-later : (caller : ℕ) (u : Update K) (k : List ℕ) (at : ℕ) (value : Option (List ℕ)) → IsRemoval h caller u k at value → IsRemoval longer caller u k at value
+  removal-later caller u k at None r = reading-later at None (λ t. get t k) r
+  removal-later caller u k at (Some d) r = update-later caller u k at (Some d) r
+
+  -- a legal answer of the later history is one of the longer history
+  pub legal-later : (shape : Shape) (caller : ℕ) (r : Request K) (reply : Reply K) → IsLegal shape h ls caller r reply → IsLegal shape longer longer-layouts caller r reply
+  legal-later shape caller (ask.Put r) (told.Put a) g = record { answer = update-later caller (Put r) r.key.at a.at a.value g.answer; layout = tt }
+  legal-later shape caller (ask.Remove k) (told.Removed a) g = record { answer = removal-later caller (Remove k) k.at a.at a.value g.answer; layout = tt }
+  legal-later shape caller (ask.Get k) (told.Got a) g = record { answer = reading-later a.at a.value (λ t. get t k.at) g.answer; layout = tt }
+  legal-later shape caller (ask.List q) (told.Listed a) g = record { answer = reading-later a.at a.value (λ t. map record_of (rows t q)) g.answer; layout = tt }
+  legal-later shape caller (ask.Count q) (told.Counted a) g = record { answer = reading-later a.at a.value (λ t. length (rows t q)) g.answer; layout = tt }
+  legal-later shape caller ask.Stat (told.Stood a) g = record {
+    answer = reading-later a.at a.value.records (λ t. length t) g.answer;
+    layout = subst (λ (L : Layout K). IsCounted shape L a.value) (sym (layout-later a.at g.answer.place.not_before)) g.layout;
+  }
+  legal-later shape caller ask.Checkpoint (told.Rooted at) g = record { answer = place-later at g.answer; layout = tt }
+  legal-later shape caller _ _ g = absurd g.answer
+
+  first-table : state_at longer (begin + 0) ≡ base
+  first-table = start-state longer (begin + 0) (omega arith)
+
+  first-layout : layout_at longer longer-layouts (begin + 0) ≡ first
+  first-layout = start-layout longer longer-layouts (begin + 0) (omega arith)
+
+  place : (i : ℕ) → begin + suc i ≡ h.from + i
+  place i = omega (arith, from)
+
+  state-there : (i : ℕ) → state_at longer (begin + suc i) ≡ state_at h (h.from + i)
+  state-there i = ap (state_at longer) (place i) ∙ state-later (h.from + i) (omega arith)
+
+  layout-there : (i : ℕ) → layout_at longer longer-layouts (begin + suc i) ≡ layout_at h ls (h.from + i)
+  layout-there i = ap (layout_at longer longer-layouts) (place i) ∙ layout-later (h.from + i) (omega arith)
+
+  -- the notes are lawful, where that of the first entry is
+  pub noted-longer : (shape : Shape) → IsLawful shape first base e.update n → IsNoted shape h ls → IsNoted shape longer longer-layouts
+  noted-longer shape l g = record { each = ap suc g.each; lawful = each }
+    where
+      each : (i : ℕ) (x : Entry K) (m : NoteOf) → slice_get (e ∷ h.entries) i ≡ Some x → slice_get (n ∷ ls.notes) i ≡ Some m
+          → IsLawful shape (layout_at longer longer-layouts (begin + i)) (state_at longer (begin + i)) x.update m
+      each zero x m p q = same-lawful shape (sym first-layout) (sym first-table) (ap (λ y. y.update) (some-is e x p)) (some-is n m q) l
+      each (suc i) x m p q = same-lawful shape (sym (layout-there i)) (sym (state-there i)) refl refl (g.lawful i x m p q)
