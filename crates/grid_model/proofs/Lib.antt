@@ -1,5 +1,7 @@
 pub mod TableLaws
 pub mod AnswerLaws
+pub mod Holders
+pub mod Hulls
 mod Rows
 mod Drawn
 mod Merges
