@@ -1,10 +1,8 @@
 -- How often numbers stand in lists, and how many of a list are among others.
-use Rattle.std.proofs.Common.{◌≡◌, ◌<◌, ◌≤◌, ◌+◌, ◌==◌, ◌||◌, ◌&&◌, ℕ, zero, suc, Bool, true, false, cond, not, T, List, [], ◌∷◌, map, filter, length, Some, None, IsSome, IsTrue, refl, sym, ap, ◌∙◌, arith, true≢false, eqb-true, eq-eqb, subst, nat_cmp, is_eq, is_lt}
+use Rattle.std.proofs.Common.{◌≡◌, ◌<◌, ◌≤◌, ◌+◌, ◌==◌, ◌||◌, ◌&&◌, ℕ, zero, suc, Bool, true, false, cond, T, List, [], ◌∷◌, map, filter, length, Some, IsSome, refl, sym, ap, ◌∙◌, arith, true≢false, eqb-true, eq-eqb, subst, nat_cmp, is_eq, is_lt}
 use Rattle.std.specs.Ordering.{eq_by_cmp}
 use Rattle.std.proofs.lemmas.List.FromFn.{length-range_with_len}
-use Rattle.std.specs.declared.cmp.Ordering.{Ordering}
-use Rattle.std.specs.declared.cmp.Ordering.TheVariants.{Less, Equal, Greater}
-use Rattle.std.specs.List.{list_any, range_with_len}
+use Rattle.std.specs.List.{range_with_len}
 use Rattle.std.specs.Cmp.{nat_cmp_total, tied_itself}
 use Rattle.std.specs.FinMap.Entries.{find, is_sorted, below_all}
 use Rattle.grid_model.specs.Lists.{below, is_among, AreDistinct}
@@ -32,8 +30,13 @@ hit false false false a b c e h = omega (arith, h)
 -- those among one number more are at most those that are this number and those among the rest
 pub hits-more : (d : ℕ) (ds rs : List ℕ) → length (filter (is_among (d ∷ ds)) rs) ≤ count d rs + length (filter (is_among ds) rs)
 hits-more d ds [] = omega arith
-hits-more d ds (r ∷ rs) = omega (arith, more (is_among (d ∷ ds) r) r (filter (is_among (d ∷ ds)) rs), more (r == d) r (filter (λ m. m == d) rs), more (is_among ds r) r (filter (is_among ds) rs),
-    hit (d == r) (r == d) (is_among ds r) (length (filter (is_among (d ∷ ds)) rs)) (count d rs) (length (filter (is_among ds) rs)) (swap-eq d r) (hits-more d ds rs))
+hits-more d ds (r ∷ rs) = omega (
+  arith,
+  more (is_among (d ∷ ds) r) r (filter (is_among (d ∷ ds)) rs),
+  more (r == d) r (filter (λ m. m == d) rs),
+  more (is_among ds r) r (filter (is_among ds) rs),
+  hit (d == r) (r == d) (is_among ds r) (length (filter (is_among (d ∷ ds)) rs)) (count d rs) (length (filter (is_among ds) rs)) (swap-eq d r) (hits-more d ds rs),
+)
 
 none-among : (rs : List ℕ) → length (filter (is_among []) rs) ≡ 0
 none-among [] = refl

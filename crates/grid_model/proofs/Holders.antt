@@ -1,14 +1,14 @@
 -- The box that a key is found in.
-use Rattle.std.proofs.Common.{◌≡◌, ◌≢◌, ℕ, Bool, true, false, cond, ◌&&◌, T, List, [], ◌∷◌, Some, None, refl, sym, ap, subst, ◌∙◌, true≢false, nat_cmp, is_lt, is_eq, IsSome}
+use Rattle.std.proofs.Common.{◌≡◌, ℕ, Bool, true, false, cond, ◌&&◌, T, List, [], ◌∷◌, Some, None, refl, sym, ap, subst, ◌∙◌, true≢false, eqb-true, eq-eqb, nat_cmp, is_eq, is_lt, IsSome}
 use Rattle.std.specs.Ordering.{eq_by_cmp}
-use Rattle.std.specs.Option.{is_some, unwrap_or}
+use Rattle.std.specs.Cmp.{unsigned_tied}
 use Rattle.std.specs.declared.cmp.Ordering.{Ordering}
 use Rattle.std.specs.declared.cmp.Ordering.TheVariants.{Less, Equal, Greater}
 use Rattle.std.specs.List as lists
 use Rattle.std.specs.FinMap.Entries.{find, is_sorted, below_all}
 use Rattle.grid_types.specs.Regions.{contains}
 use Rattle.grid_model.specs.Layouts.{Box, Layout, box, holder}
-use Rattle.grid_model.proofs.Numbered.{itself, same-number}
+use Rattle.grid_model.proofs.Boxes.{one-value, some-not-none}
 
 part-one : (a b : Bool) → T (a && b) → T a
 part-one true b p = tt
@@ -18,57 +18,52 @@ part-two : (a b : Bool) → T (a && b) → T b
 part-two true b p = p
 part-two false b p = absurd p
 
-less-apart : (o : Ordering) → T (is_lt o) → is_eq o ≡ false
-less-apart Less p = refl
-less-apart Equal p = absurd p
-less-apart Greater p = absurd p
+less-not-equal : (o : Ordering) → T (is_lt o) → is_eq o ≡ false
+less-not-equal Less p = refl
+less-not-equal Equal p = absurd p
+less-not-equal Greater p = absurd p
 
-pub some-is : {X : Type 0} (x y : X) → Some x ≡ Some y → x ≡ y
-some-is x y e = ap (λ o. unwrap_or o x) e
-
-pub some-not-none : {X : Type 0} (x : X) → Some x ≢ None
-some-not-none x e = true≢false (ap is_some e)
+-- a number below those of all entries is none of theirs
+not-found-below : {X : Type 0} (n : ℕ) (es : List (ℕ × X)) → T (below_all nat_cmp n es) → find nat_cmp n es ≡ None
+not-found-below n [] h = refl
+not-found-below n (e ∷ es) h =
+    ap (λ b. cond b (Some e.1) (find nat_cmp n es)) (less-not-equal (nat_cmp n e.0) (part-one (is_lt (nat_cmp n e.0)) (below_all nat_cmp n es) h))
+    ∙ not-found-below n es (part-two (is_lt (nat_cmp n e.0)) (below_all nat_cmp n es) h)
 
 module _ {K : ℕ} (k : List ℕ) where
   -- whether a box has the key
   abbrev has : ℕ × Box K → Bool
   has e = contains e.1.region k
 
-  find-below : (n : ℕ) (es : List (ℕ × Box K)) → T (below_all nat_cmp n es) → find nat_cmp n es ≡ None
-  find-below n [] h = refl
-  find-below n (e ∷ es) h =
-      ap (λ b. cond b (Some e.1) (find nat_cmp n es)) (less-apart (nat_cmp n e.0) (part-one (is_lt (nat_cmp n e.0)) (below_all nat_cmp n es) h))
-      ∙ find-below n es (part-two (is_lt (nat_cmp n e.0)) (below_all nat_cmp n es) h)
-
-  finds : (es : List (ℕ × Box K)) (n : ℕ) (b : Box K) → find nat_cmp n es ≡ Some b → contains b.region k ≡ true → IsSome (lists.find has es)
-  finds [] n b e h = absurd (some-not-none b (sym e))
-  finds (x ∷ es) n b e h = by (has x) refl (eq_by_cmp nat_cmp n x.0) e (finds es n b)
+  is-found : (es : List (ℕ × Box K)) (n : ℕ) (b : Box K) → find nat_cmp n es ≡ Some b → contains b.region k ≡ true → IsSome (lists.find has es)
+  is-found [] n b e h = absurd (some-not-none b (sym e))
+  is-found (x ∷ es) n b e h = by (has x) refl (eq_by_cmp nat_cmp n x.0) e (is-found es n b)
     where
       by : (t : Bool) → contains x.1.region k ≡ t → (s : Bool) → cond s (Some x.1) (find nat_cmp n es) ≡ Some b → (find nat_cmp n es ≡ Some b → contains b.region k ≡ true → IsSome (lists.find has es)) → IsSome (cond t (Some x) (lists.find has es))
       by true p s q rest = refl
-      by false p true q rest = absurd (true≢false (sym h ∙ ap (λ (d : Box K). contains d.region k) (sym (some-is x.1 b q)) ∙ p))
+      by false p true q rest = absurd (true≢false (sym h ∙ ap (λ (d : Box K). contains d.region k) (sym (one-value x.1 b q)) ∙ p))
       by false p false q rest = rest q h
 
-  found : (es : List (ℕ × Box K)) (e : ℕ × Box K) → T (is_sorted nat_cmp es) → lists.find has es ≡ Some e → (find nat_cmp e.0 es ≡ Some e.1) × (contains e.1.region k ≡ true)
-  found [] e s q = absurd (some-not-none e (sym q))
-  found (x ∷ es) e s q = by (has x) refl q (found es e (part-two (below_all nat_cmp x.0 es) (is_sorted nat_cmp es) s))
+  is-there : (es : List (ℕ × Box K)) (e : ℕ × Box K) → T (is_sorted nat_cmp es) → lists.find has es ≡ Some e → (find nat_cmp e.0 es ≡ Some e.1) × (contains e.1.region k ≡ true)
+  is-there [] e s q = absurd (some-not-none e (sym q))
+  is-there (x ∷ es) e s q = by (has x) refl q (is-there es e (part-two (below_all nat_cmp x.0 es) (is_sorted nat_cmp es) s))
     where
-      there : (t : Bool) → eq_by_cmp nat_cmp e.0 x.0 ≡ t → find nat_cmp e.0 es ≡ Some e.1 → cond t (Some x.1) (find nat_cmp e.0 es) ≡ Some e.1
-      there true p f = absurd (some-not-none e.1 (sym f ∙ ap (λ n. find nat_cmp n es) (same-number e.0 x.0 p) ∙ find-below x.0 es (part-one (below_all nat_cmp x.0 es) (is_sorted nat_cmp es) s)))
-      there false p f = f
+      later : (t : Bool) → eq_by_cmp nat_cmp e.0 x.0 ≡ t → find nat_cmp e.0 es ≡ Some e.1 → cond t (Some x.1) (find nat_cmp e.0 es) ≡ Some e.1
+      later true p f = absurd (some-not-none e.1 (sym f ∙ ap (λ n. find nat_cmp n es) (eqb-true e.0 x.0 (sym (unsigned_tied e.0 x.0) ∙ p)) ∙ not-found-below x.0 es (part-one (below_all nat_cmp x.0 es) (is_sorted nat_cmp es) s)))
+      later false p f = f
 
       by : (t : Bool) → contains x.1.region k ≡ t → cond t (Some x) (lists.find has es) ≡ Some e → (lists.find has es ≡ Some e → (find nat_cmp e.0 es ≡ Some e.1) × (contains e.1.region k ≡ true)) → (find nat_cmp e.0 (x ∷ es) ≡ Some e.1) × (contains e.1.region k ≡ true)
       by true p f rest =
-          let same : x ≡ e = some-is x e f in
-          subst (λ (y : ℕ × Box K). (find nat_cmp y.0 (x ∷ es) ≡ Some y.1) × (contains y.1.region k ≡ true)) same (ap (λ t. cond t (Some x.1) (find nat_cmp x.0 es)) (itself x.0), p)
-      by false p f rest = (there (eq_by_cmp nat_cmp e.0 x.0) refl (rest f).0, (rest f).1)
+          let same : x ≡ e = one-value x e f in
+          subst (λ (y : ℕ × Box K). (find nat_cmp y.0 (x ∷ es) ≡ Some y.1) × (contains y.1.region k ≡ true)) same (ap (λ t. cond t (Some x.1) (find nat_cmp x.0 es)) (unsigned_tied x.0 x.0 ∙ eq-eqb x.0 x.0 refl), p)
+      by false p f rest = (later (eq_by_cmp nat_cmp e.0 x.0) refl (rest f).0, (rest f).1)
 
-  -- a key that some box has is found
-  pub holder-finds : (L : Layout K) (n : ℕ) (b : Box K) → box L n ≡ Some b → contains b.region k ≡ true → IsSome (holder L k)
-  unfolding holder
-  holder-finds L n b e h = finds L.boxes n b e h
+-- a key that some box has is found
+pub holder-finds : {K : ℕ} (k : List ℕ) (L : Layout K) (n : ℕ) (b : Box K) → box L n ≡ Some b → contains b.region k ≡ true → IsSome (holder L k)
+unfolding holder
+holder-finds k L n b e h = is-found k L.boxes n b e h
 
-  -- and the box that is found is there, and has the key
-  pub holder-box : (L : Layout K) (e : ℕ × Box K) → T (is_sorted nat_cmp L.boxes) → holder L k ≡ Some e → (box L e.0 ≡ Some e.1) × (contains e.1.region k ≡ true)
-  unfolding holder
-  holder-box L e s q = found L.boxes e s q
+-- the box that is found is there, and has the key
+pub holder-box : {K : ℕ} (k : List ℕ) (L : Layout K) (e : ℕ × Box K) → T (is_sorted nat_cmp L.boxes) → holder L k ≡ Some e → (box L e.0 ≡ Some e.1) × (contains e.1.region k ≡ true)
+unfolding holder
+holder-box k L e s q = is-there k L.boxes e s q

@@ -1,27 +1,14 @@
 -- Entries by number: how many there are after a put, and which test tells two numbers apart.
-use Rattle.std.proofs.Common.{◌≡◌, ◌≢◌, ◌<◌, ◌≤◌, ◌+◌, ◌==◌, ◌||◌, ℕ, min, max, Bool, true, false, cond, not, T, List, [], ◌∷◌, length, Some, None, IsSome, refl, sym, ap, ◌∙◌, arith, true≢false, eqb-true, eq-eqb, nat_cmp, is_eq}
+use Rattle.std.proofs.Common.{◌≡◌, ◌≤◌, ◌+◌, ◌==◌, ℕ, Bool, true, false, cond, not, T, List, length, IsSome, sym, ap, ◌∙◌, arith, nat_cmp}
 use Rattle.std.specs.Ordering.{eq_by_cmp}
 use Rattle.std.specs.Option.{is_some}
-use Rattle.std.specs.Cmp.{nat_cmp_total, tied_itself}
-use Rattle.std.specs.FinMap.{nat_cmp-IsAntisymmetric}
+use Rattle.std.specs.Cmp.{nat_cmp_total, unsigned_tied}
 use Rattle.std.specs.FinMap.Entries.{find, put, where_key, is_sorted, length-put, length_without}
-use Rattle.grid_model.proofs.TableLaws.{equal_order}
-
-pub same-number : (m n : ℕ) → eq_by_cmp nat_cmp m n ≡ true → m ≡ n
-same-number m n e = nat_cmp-IsAntisymmetric m n (equal_order (nat_cmp m n) e)
-
-pub itself : (n : ℕ) → eq_by_cmp nat_cmp n n ≡ true
-itself n = ap is_eq (tied_itself nat_cmp_total n)
+use Rattle.grid_model.proofs.Counts.{swap-eq}
 
 -- the test of equality and the order tell the same numbers apart
 pub cmp-test : (a m : ℕ) → (a == m) ≡ eq_by_cmp nat_cmp m a
-cmp-test a m = by (a == m) refl (eq_by_cmp nat_cmp m a) refl
-  where
-    by : (s : Bool) → (a == m) ≡ s → (t : Bool) → eq_by_cmp nat_cmp m a ≡ t → s ≡ t
-    by true e true f = refl
-    by true e false f = absurd (true≢false (sym (itself m) ∙ ap (eq_by_cmp nat_cmp m) (sym (eqb-true a m e)) ∙ f))
-    by false e true f = absurd (true≢false (sym (eq-eqb a m (sym (same-number m a f))) ∙ e))
-    by false e false f = refl
+cmp-test a m = swap-eq a m ∙ sym (unsigned_tied m a)
 
 pub cmp-apart : (a m : ℕ) → (a == m) ≡ false → eq_by_cmp nat_cmp m a ≡ false
 cmp-apart a m e = sym (cmp-test a m) ∙ e

@@ -1,8 +1,7 @@
 -- A history with one more entry in front: later places have the same tables and layouts, and later answers stay legal.
-use Rattle.std.proofs.Common.{◌≡◌, ◌<◌, ◌≤◌, ◌+◌, ◌-◌, ℕ, zero, suc, Bool, true, false, cond, List, [], ◌∷◌, map, take, fold, zip, length, Option, Some, None, refl, sym, ap, subst, ◌∙◌, arith, true≢false, slice_get, nat_lt, ltb-true, lt-ltb}
+use Rattle.std.proofs.Common.{◌≡◌, ◌<◌, ◌≤◌, ◌+◌, ◌-◌, ℕ, zero, suc, Bool, true, false, cond, List, ◌∷◌, map, take, fold, zip, length, Option, Some, None, refl, sym, ap, subst, ◌∙◌, arith, true≢false, slice_get, nat_lt, ltb-true, lt-ltb}
 use Rattle.std.specs.Option.{is_some}
 use Rattle.grid_types.specs.declared.shape.Shape.{Shape}
-use Rattle.grid_types.specs.declared.shape.Stat.{Stat}
 use Rattle.grid_types.specs.declared.update.Update.{Update}
 use Rattle.grid_types.specs.declared.update.Update.TheVariants.{Put, Remove}
 use Rattle.grid_types.specs.declared.update.Entry.{Entry}
@@ -16,9 +15,9 @@ use Rattle.grid_model.specs.Layouts.{Layout}
 use Rattle.grid_model.specs.Listings.{rows}
 use Rattle.grid_model.specs.Lone.{record_of}
 use Rattle.grid_model.specs.Notes.{IsLawful}
-use Rattle.grid_model.specs.Histories.{History, Layouts, IsPlace, IsNoted, front, until, entry_at, entry_effect, noted_effect, state_at, layout_at}
-use Rattle.grid_model.proofs.Holders.{some-is}
-use Rattle.grid_model.specs.Answers.{IsAnswer, IsReading, IsUpdate, IsRemoval, IsCounted, IsLegal, SaysOfLayout}
+use Rattle.grid_model.specs.Histories.{History, Layouts, IsPlace, IsNoted, entry_at, entry_effect, noted_effect, state_at, layout_at}
+use Rattle.grid_model.proofs.Boxes.{one-value}
+use Rattle.grid_model.specs.Answers.{IsReading, IsUpdate, IsRemoval, IsCounted, IsLegal}
 
 same-lawful : {K : ℕ} (shape : Shape) {L M : Layout K} {t s : Table} {u v : Update K} {n m : NoteOf} → L ≡ M → t ≡ s → u ≡ v → n ≡ m → IsLawful shape L t u n → IsLawful shape M s v m
 same-lawful shape {L} {M} {t} {s} {u} {v} {n} {m} p q r o l =
@@ -123,5 +122,5 @@ module _ {K : ℕ} (h : History K) (ls : Layouts K) (begin : ℕ) (base : Table)
     where
       each : (i : ℕ) (x : Entry K) (m : NoteOf) → slice_get (e ∷ h.entries) i ≡ Some x → slice_get (n ∷ ls.notes) i ≡ Some m
           → IsLawful shape (layout_at longer longer-layouts (begin + i)) (state_at longer (begin + i)) x.update m
-      each zero x m p q = same-lawful shape (sym first-layout) (sym first-table) (ap (λ y. y.update) (some-is e x p)) (some-is n m q) l
+      each zero x m p q = same-lawful shape (sym first-layout) (sym first-table) (ap (λ y. y.update) (one-value e x p)) (one-value n m q) l
       each (suc i) x m p q = same-lawful shape (sym (layout-there i)) (sym (state-there i)) refl refl (g.lawful i x m p q)

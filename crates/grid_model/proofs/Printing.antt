@@ -1,5 +1,5 @@
 -- What is printed is the lines of the replies: none of them has a byte 10 inside.
-use Rattle.std.proofs.Common.{◌≡◌, ◌<◌, ◌≤◌, ◌+◌, ◌/◌, ◌%◌, ◌==◌, ◌&&◌, ℕ, zero, suc, Bool, true, false, cond, not, List, [], ◌∷◌, ◌++◌, map, length, Option, Some, None, refl, sym, ap, ◌∙◌, arith, true≢false, append_assoc, slice_index, eqb-true, nat_lt, codes}
+use Rattle.std.proofs.Common.{◌≡◌, ◌<◌, ◌+◌, ◌/◌, ◌%◌, ◌==◌, ◌&&◌, ℕ, zero, suc, Bool, true, false, cond, not, List, [], ◌∷◌, ◌++◌, map, length, Option, Some, None, refl, sym, ap, ◌∙◌, arith, true≢false, append_assoc, slice_index, eqb-true, nat_lt, codes}
 use Rattle.std.specs.Prelude.{decimal}
 use Rattle.std.specs.List.{list_all, flat_map}
 use Rattle.std.specs.Fmt.{digits, digits_onto, digit_glyph}
@@ -180,5 +180,5 @@ pub prints-lines : {K : ℕ} → PrintsLines K
 unfolding text text_lines
 prints-lines = record {
   lines = λ groups front. lines-back (text_lines groups front)
-  (all-append plain (flat_map group_lines groups) (numbered (codes "front ") front ∷ []) (flat-plain group_lines group-plain groups) (one (numbered (codes "front ") front) (numbered-plain (codes "front ") front refl)));
+      (all-append plain (flat_map group_lines groups) (numbered (codes "front ") front ∷ []) (flat-plain group_lines group-plain groups) (one (numbered (codes "front ") front) (numbered-plain (codes "front ") front refl)));
 }

@@ -1,12 +1,11 @@
 -- The lines of a script: what each asks, and the first that is nothing of the grammar.
-use Rattle.std.proofs.Common.{◌≡◌, ◌≢◌, ◌<◌, ◌≤◌, ◌+◌, ◌-◌, ◌↔◌, ℕ, zero, suc, Bool, true, false, cond, List, [], ◌∷◌, map, take, fold, length, Option, Some, None, Result, Ok, Err, refl, sym, ap, subst, ◌∙◌, arith, true≢false, slice_get, nat_lt, ltb-true, ltb-false, lt-ltb}
+use Rattle.std.proofs.Common.{◌≡◌, ◌≢◌, ◌<◌, ◌≤◌, ◌+◌, ◌-◌, ℕ, zero, suc, Bool, true, false, cond, List, [], ◌∷◌, take, fold, length, Option, Some, None, Result, Ok, Err, refl, sym, ap, ◌∙◌, arith, true≢false, slice_get, nat_lt, ltb-true, ltb-false, lt-ltb}
 use Rattle.std.specs.Prelude.{filter_map}
 use Rattle.std.specs.List.{range_with_len, cons_option}
 use Rattle.std.specs.Option.{option_and_then, is_some}
 use Rattle.grid_types.specs.declared.request.Line.{Line}
-use Rattle.grid_model.specs.Lists.{below}
 use Rattle.grid_model.specs.Script.{Meaning, Silent, Speaks, Asks, Bad, asked, also, meanings, longest, lines}
-use Rattle.grid_model.specs.ScriptLaws.{speaker, line_of, line_at, speaker_at, IsFirstBad, IsOneScript}
+use Rattle.grid_model.specs.ScriptLaws.{speaker, line_of, IsFirstBad, IsOneScript}
 
 -- a value and an error are told apart
 abbrev is-ok : {X E : Type 0} → Result X E → Bool

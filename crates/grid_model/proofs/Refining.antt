@@ -1,5 +1,5 @@
 -- A directory never gets smaller by a cut.
-use Rattle.std.proofs.Common.{◌≡◌, ◌<◌, ◌≤◌, ◌+◌, ◌*◌, ◌/◌, ◌==◌, ◌&&◌, ℕ, zero, suc, Bool, true, false, cond, List, [], ◌∷◌, ◌++◌, map, filter, length, slice_index_or, slice_set, nat_lt, nat_le, IsTrue, refl, sym, ap, ◌∙◌, arith, true≢false, eqb-true, leb-true, ltb-true, ltb-false, length-append}
+use Rattle.std.proofs.Common.{◌≡◌, ◌<◌, ◌≤◌, ◌+◌, ◌/◌, ◌==◌, ◌&&◌, ℕ, zero, suc, Bool, true, false, cond, List, [], ◌∷◌, map, filter, length, slice_set, nat_lt, nat_le, refl, ap, ◌∙◌, arith, eqb-true, leb-true, ltb-false, length-append}
 use Rattle.std.proofs.Math.Nat.{mul-le-mul_left, mul-le-mul_right}
 use Rattle.grid_types.specs.declared.note.Cut.{Cut}
 use Rattle.grid_types.proofs.Numbers.{first, second}

@@ -1,6 +1,5 @@
 -- Each request of a lone caller leaves a state: what is rooted is among the owners, and the pages fit.
-use Rattle.std.proofs.Common.{◌≡◌, ◌≢◌, ◌<◌, ◌≤◌, ◌+◌, ◌-◌, ◌==◌, ◌||◌, ◌&&◌, ◌⊎◌, inl, inr, ℕ, zero, suc, min, max, Bool, true, false, cond, not, T, List, [], ◌∷◌, map, filter, length, Option, Some, None, IsSome, IsTrue, refl, sym, ap, ◌∙◌, arith, true≢false, subst, nat_lt, nat_cmp, ltb-false, ltb-true, slice_index_or}
-use Rattle.std.specs.Prelude.{if◌then◌else◌}
+use Rattle.std.proofs.Common.{◌≡◌, ◌<◌, ◌≤◌, ◌+◌, ◌==◌, ◌||◌, ◌&&◌, inl, inr, ℕ, zero, suc, Bool, true, false, cond, not, List, [], ◌∷◌, map, length, Option, Some, None, IsSome, IsTrue, refl, sym, ap, ◌∙◌, arith, true≢false, subst, nat_lt, ltb-false, ltb-true, slice_index_or}
 use Rattle.std.specs.List.{Contains}
 use Rattle.std.proofs.lemmas.List.Filters.{length-filter_both}
 use Rattle.std.specs.Option.{is_some, option_map_or, option_map, option_and_then, unwrap_or}
@@ -17,7 +16,7 @@ use Rattle.grid_types.specs.declared.note.NoteOf.TheVariants as note
 use Rattle.grid_types.specs.declared.note.Cut.{Cut}
 use Rattle.grid_types.specs.Keys.{IsKey}
 use Rattle.grid_types.specs.Queries.{is_lawful}
-use Rattle.grid_model.specs.Lists.{is_among, AreDistinct}
+use Rattle.grid_model.specs.Lists.{is_among}
 use Rattle.grid_model.specs.Scales.{scale_of, is_scale}
 use Rattle.grid_model.specs.Cells.{parts}
 use Rattle.grid_model.specs.Tables.{Table, get, without, effect}
@@ -25,12 +24,13 @@ use Rattle.grid_model.specs.Listings.{rows}
 use Rattle.grid_model.specs.Layouts.{Box, Layout, box, holder, unused, inside, Sound}
 use Rattle.grid_model.specs.Cuts.{cut}
 use Rattle.grid_model.specs.Neighbours.{partners}
-use Rattle.grid_model.specs.Notes.{key_of, keys_with, cut_note, put_note, put_note_at, merges, merges_at, after, after_at, split, joined, IsLawful}
+use Rattle.grid_model.specs.Notes.{key_of, keys_with, cut_note, put_note, put_note_at, merges, merges_at, after, after_at, joined, IsLawful}
 use Rattle.grid_model.specs.LayoutLaws.{StandsOver, Fits, KeepsSound, IsLeastUnused, MergesTwo, IsMerge}
 use Rattle.grid_model.specs.LoneLaws.{IsState, HasKey}
-use Rattle.grid_model.specs.Lone.{record_of, State, Owners, free, root, opened, root_if, owners, outside, among, how_many, renewed, dropped, need, spare, published, claimed, queued, change, change_claimed, done, refused, answered, remove_note, remove_found, put_noted, update_at, update_held, updated, lone}
+use Rattle.grid_model.specs.Lone.{record_of, State, free, root, opened, root_if, how_many, renewed, dropped, need, published, claimed, queued, change, change_claimed, done, refused, answered, remove_note, remove_found, put_noted, update_at, update_held, updated, lone}
 use Rattle.grid_model.proofs.Counts.{filter-distinct, among-filter, among-range, range-distinct, sorted-distinct, among-found}
 use Rattle.grid_model.proofs.Holders.{holder-box}
+use Rattle.grid_model.proofs.Partners.{no-merge-of-put}
 use Rattle.grid_model.proofs.Swapping.{Swaps, IsRooted, plain-swaps, cut-swaps, merge-swaps}
 
 module _ {K : ℕ} (shape : Shape) where
@@ -100,23 +100,6 @@ cut-right {K} shape L t k c right e = held (holder L k) e
     held None q = absurd (true≢false (sym (ap is_some q)))
     held (Some x) q = noted (is_some (get t k) || nat_lt (length (inside t x.1.region)) shape.capacity) (cut shape L.scales x.1 (keys_with t x.1.region k)) q
 
--- and never merges
-put-no-merge : {K : ℕ} (shape : Shape) (L : Layout K) (t : Table) (k : List ℕ) → is-merge (put_note shape L t k) ≡ false
-unfolding put_note
-put-no-merge {K} shape L t k = held (holder L k)
-  where
-    from-cut : (o : Option Cut) → is-merge (option_map (cut_note L) o) ≡ false
-    from-cut None = refl
-    from-cut (Some d) = refl
-
-    noted : (t : Bool) (o : Option Cut) → is-merge (cond t (Some note.Plain) (option_map (cut_note L) o)) ≡ false
-    noted true o = refl
-    noted false o = from-cut o
-
-    held : (o : Option (ℕ × Box K)) → is-merge (option_and_then (λ x. put_note_at shape L t k x.1) o) ≡ false
-    held None = refl
-    held (Some x) = noted (is_some (get t k) || nat_lt (length (inside t x.1.region)) shape.capacity) (cut shape L.scales x.1 (keys_with t x.1.region k))
-
 listed-merge : (ms : List ℕ) (n : NoteOf) (i : ℕ) → i < length (map note.Merge ms) → slice_index_or (map note.Merge ms) i n ≡ n → is-merge (Some n) ≡ true
 listed-merge [] n i h e = absurd (omega (arith, h))
 listed-merge (m ∷ ms) n zero h e = ap (λ x. is-merge (Some x)) (sym e)
@@ -172,7 +155,7 @@ module _ {K : ℕ} (shape : Shape) (keeps : KeepsSound K) (least : IsLeastUnused
       cut-swaps s.layout e.0 e.1 c right s.rooted b.0 (ap (box s.layout) (cut-right shape s.layout s.table r.key.at c right l) ∙ least.none s.layout) h.stands.sound.numbered (rooted-of shape s h) (scale-is shape s.layout s.table c.attribute h.stands.sound)
   swaps s e (Remove k) (note.Cut c right) h q (some, inl p) = absurd (true≢false (ap (λ x. is-cut (Some x)) p))
   swaps s e (Remove k) (note.Cut c right) h q (some, inr p) = absurd (true≢false (sym (merges-merge shape s.layout s.table k.at (note.Cut c right) p)))
-  swaps s e (Put r) (note.Merge m) h q l = absurd (true≢false (sym (ap is-merge l) ∙ put-no-merge shape s.layout s.table r.key.at))
+  swaps s e (Put r) (note.Merge m) h q l = absurd (no-merge-of-put shape s.layout s.table r.key.at m l)
   swaps s e (Remove k) (note.Merge m) h q l =
       let b = holder-box k.at s.layout e h.stands.sound.numbered q in
       let g = merging.merge shape s.layout s.table (Remove k) m e.0 e.1 h.stands l q in
@@ -188,12 +171,12 @@ module _ {K : ℕ} (shape : Shape) (keeps : KeepsSound K) (least : IsLeastUnused
       let w = swaps s e u n h q l in
       record {
         stands = subst (λ (M : Layout K). StandsOver shape M (effect s.table u)) (after-there s.layout (key_of u) e n q)
-        (keeps.after shape s.layout s.table u n h.stands k l (subst (Fits shape) (sym (after-there s.layout (key_of u) e n q)) (omega (arith, w.total, h.pages, room))));
+            (keeps.after shape s.layout s.table u n h.stands k l (subst (Fits shape) (sym (after-there s.layout (key_of u) e n q)) (omega (arith, w.total, h.pages, room))));
         rooted_buckets = λ m g. let p = among-filter (λ i. not (is_among (dropped s.layout e n).buckets i)) s.rooted.buckets m g in
-        ap is_some (w.boxes m (not-true (is_among (dropped s.layout e n).buckets m) p.1)) ∙ h.rooted_buckets m p.0;
+            ap is_some (w.boxes m (not-true (is_among (dropped s.layout e n).buckets m) p.1)) ∙ h.rooted_buckets m p.0;
         distinct_buckets = filter-distinct (λ m. not (is_among (dropped s.layout e n).buckets m)) s.rooted.buckets h.distinct_buckets;
         rooted_parts = λ p g. let f = among-filter (λ i. not (is_among (dropped s.layout e n).parts i)) s.rooted.parts p g in
-        w.stay p (h.rooted_parts p f.0) (not-true (is_among (dropped s.layout e n).parts p) f.1);
+            w.stay p (h.rooted_parts p f.0) (not-true (is_among (dropped s.layout e n).parts p) f.1);
         distinct_parts = filter-distinct (λ m. not (is_among (dropped s.layout e n).parts m)) s.rooted.parts h.distinct_parts;
         pages = omega (arith, w.total, h.pages, room);
       }
@@ -272,6 +255,8 @@ free-pages shape s h = omega (arith, h.pages)
 -- the pages of the root that an update replaces are kept
 pub kept-pages : {K : ℕ} (s : State K) (e : ℕ × Box K) (u : Update K) (n : NoteOf) → (published e u n s).kept + how_many (published e u n s).rooted ≡ s.kept + how_many s.rooted
 unfolding published
-kept-pages s e u n = omega (arith,
-    length-filter_both (is_among (dropped s.layout e n).buckets) (λ i. not (is_among (dropped s.layout e n).buckets i)) (λ i. refl) s.rooted.buckets,
-    length-filter_both (is_among (dropped s.layout e n).parts) (λ i. not (is_among (dropped s.layout e n).parts i)) (λ i. refl) s.rooted.parts)
+kept-pages s e u n = omega (
+  arith,
+  length-filter_both (is_among (dropped s.layout e n).buckets) (λ i. not (is_among (dropped s.layout e n).buckets i)) (λ i. refl) s.rooted.buckets,
+  length-filter_both (is_among (dropped s.layout e n).parts) (λ i. not (is_among (dropped s.layout e n).parts i)) (λ i. refl) s.rooted.parts,
+)

@@ -1,31 +1,22 @@
 -- What a change of a layout does to its owners: it renews some and drops others, and the pages are counted.
-use Rattle.std.proofs.Common.{◌≡◌, ◌≢◌, ◌<◌, ◌≤◌, ◌+◌, ◌-◌, ◌==◌, ◌||◌, ◌&&◌, ◌⊎◌, ℕ, zero, suc, min, max, Bool, true, false, cond, not, T, List, [], ◌∷◌, map, filter, length, Option, Some, None, IsSome, IsTrue, refl, sym, ap, ◌∙◌, arith, true≢false, subst, nat_lt, nat_le, nat_cmp, is_eq, ltb-false, leb-true, leb-false, eqb-true, eq-eqb, slice_set}
-use Rattle.std.specs.Ordering.{eq_by_cmp}
-use Rattle.std.specs.List.{list_any, range_with_len, Contains}
+use Rattle.std.proofs.Common.{◌≡◌, ◌≢◌, ◌<◌, ◌≤◌, ◌+◌, ◌==◌, ◌||◌, ℕ, min, max, Bool, true, false, cond, not, T, List, [], ◌∷◌, filter, length, Some, None, IsSome, IsTrue, refl, sym, ap, ◌∙◌, arith, true≢false, nat_le, nat_cmp, leb-true, leb-false, eqb-true, eq-eqb, slice_set}
 use Rattle.std.proofs.lemmas.List.FromFn.{length-range_with_len}
 use Rattle.std.specs.FinMap.{nat_cmp-IsAntisymmetric}
-use Rattle.std.specs.Option.{is_some, option_map_or, option_map, option_and_then, unwrap_or}
-use Rattle.std.specs.Cmp.{nat_cmp_total, tied_itself}
-use Rattle.std.specs.FinMap.Entries.{find, put, where_key, is_sorted, length-put, is_sorted-put, find-put, find-where_key, is_sorted-where_key}
-use Rattle.grid_types.specs.declared.shape.Shape.{Shape}
-use Rattle.grid_types.specs.declared.update.Update.{Update}
-use Rattle.grid_types.specs.declared.update.Update.TheVariants.{Put, Remove}
-use Rattle.grid_types.specs.declared.note.NoteOf.{NoteOf}
+use Rattle.std.specs.Option.{is_some}
+use Rattle.std.specs.Cmp.{nat_cmp_total}
+use Rattle.std.specs.FinMap.Entries.{find, put, where_key, is_sorted, is_sorted-put, find-put, find-where_key, is_sorted-where_key}
 use Rattle.grid_types.specs.declared.note.NoteOf.TheVariants as note
 use Rattle.grid_types.specs.declared.note.Cut.{Cut}
-use Rattle.grid_types.specs.Keys.{IsKey}
 use Rattle.grid_model.specs.Lists.{below, is_among, AreDistinct}
 use Rattle.grid_model.specs.Scales.{scale_of, is_scale, refined}
 use Rattle.grid_model.specs.Cells.{parts, parts_holding}
-use Rattle.grid_model.specs.Tables.{Table, effect}
-use Rattle.grid_model.specs.Layouts.{Box, Layout, box, holder, unused}
-use Rattle.grid_model.specs.Notes.{key_of, after, after_at, split, joined, IsLawful, left_of, right_of, scales_after, together}
-use Rattle.grid_model.specs.LayoutLaws.{StandsOver, Fits, KeepsSound, IsLeastUnused, MergesTwo, IsMerge}
-use Rattle.grid_model.specs.LoneLaws.{IsState}
-use Rattle.grid_model.specs.Lone.{State, Owners, free, root, opened, root_if, owners, outside, among, how_many, renewed, dropped, published, parts_of_cut, parts_of_merge}
-use Rattle.grid_model.proofs.Counts.{count, hits-more, few-among, count-absent, filter-distinct, among-filter, among-range, range-distinct, sorted-distinct, among-found, few-below, length-part}
+use Rattle.grid_model.specs.Layouts.{Box, Layout, box}
+use Rattle.grid_model.specs.Notes.{split, joined, left_of, right_of, scales_after, together}
+use Rattle.grid_model.specs.LayoutLaws.{IsMerge}
+use Rattle.grid_model.specs.Lone.{Owners, among, how_many, renewed, dropped, parts_of_merge}
+use Rattle.grid_model.proofs.Counts.{hits-more, few-among, count-absent, few-below, length-part}
 use Rattle.grid_model.proofs.Refining.{parts-grow}
-use Rattle.grid_model.proofs.Numbered.{put-few, put-there, without-one, cmp-apart, cmp-test, itself, same-number}
+use Rattle.grid_model.proofs.Numbered.{put-few, put-there, without-one, cmp-apart}
 
 -- a change of a layout renews owners and drops others: other boxes and parts stay, and there are no more pages than before and the new ones
 pub record Swaps {K : ℕ} (L new : Layout K) (drops renews rooted : Owners) : Type 0 where

@@ -1,9 +1,7 @@
 -- A lone caller's answers are legal in the history that it makes.
-use Rattle.std.proofs.Common.{◌≡◌, ◌<◌, ◌≤◌, ◌+◌, ◌-◌, ◌==◌, ◌&&◌, ◌⊎◌, inl, inr, ℕ, zero, suc, Bool, true, false, cond, List, [], ◌∷◌, map, length, Option, Some, None, IsSome, refl, sym, ap, subst, ◌∙◌, arith, true≢false, slice_get, nat_lt, lt-ltb, replicate, IsTrue, nat_le, leb-true}
-use Rattle.std.specs.List.{Contains}
+use Rattle.std.proofs.Common.{◌≡◌, ◌≤◌, ◌+◌, ◌-◌, ◌==◌, ◌&&◌, ◌⊎◌, inl, inr, ℕ, zero, suc, Bool, true, false, cond, List, [], ◌∷◌, map, length, Option, Some, None, IsSome, refl, sym, ap, subst, ◌∙◌, arith, true≢false, slice_get, nat_lt, lt-ltb, replicate, IsTrue, nat_le, leb-true}
 use Rattle.std.specs.Option.{is_some}
 use Rattle.grid_types.specs.declared.shape.Shape.{Shape}
-use Rattle.grid_types.specs.declared.key.Key.{Key}
 use Rattle.grid_types.specs.declared.update.Update.{Update}
 use Rattle.grid_types.specs.declared.update.Update.TheVariants.{Put, Remove}
 use Rattle.grid_types.specs.declared.update.Entry.{Entry}
@@ -18,18 +16,18 @@ use Rattle.grid_types.proofs.Numbers.{first, second}
 use Rattle.grid_types.specs.Shapes.{is_shape, has_lawful_pages, has_lawful_buckets, has_lawful_bounds}
 use Rattle.grid_types.specs.Keys.{IsKey}
 use Rattle.grid_types.specs.Queries.{is_lawful}
-use Rattle.grid_model.specs.Cells.{cells, parts}
+use Rattle.grid_model.specs.Cells.{cells}
 use Rattle.grid_model.specs.Tables.{Table, get, effect}
 use Rattle.grid_model.specs.Layouts.{Box, Layout, holder, new_layout}
 use Rattle.grid_model.specs.Listings.{rows}
 use Rattle.grid_model.specs.Notes.{key_of, put_note, merges, after, after_at, IsLawful}
-use Rattle.grid_model.specs.Histories.{History, Layouts, IsPlace, IsNoted, front, entry_at, state_at, layout_at}
-use Rattle.grid_model.specs.Answers.{IsAnswer, IsReading, IsUpdate, IsRemoval, IsCounted, IsLegal, IsRefusal}
+use Rattle.grid_model.specs.Histories.{History, Layouts, IsPlace, front, entry_at, state_at, layout_at}
+use Rattle.grid_model.specs.Answers.{IsReading, IsRemoval, IsCounted, IsLegal, IsRefusal}
 use Rattle.grid_model.specs.LayoutLaws.{KeepsSound, IsLeastUnused, MergesTwo}
-use Rattle.grid_model.specs.LoneLaws.{IsState, HasKey, IsHistoryOf, MakesHistory, IsLegalAlone}
+use Rattle.grid_model.specs.LoneLaws.{IsState, HasKey, MakesHistory, IsLegalAlone}
 use Rattle.grid_model.specs.Lone.{State, Outcome, record_of, statistics, boundaries, free, root, root_if, need, published, claimed, queued, change, change_claimed, done, refused, answered, update_reply, remove_note, remove_found, put_noted, update_at, update_held, updated, lone, answers, afterwards, made}
-use Rattle.grid_model.proofs.Holders.{some-is}
-use Rattle.grid_model.proofs.Prepending.{longer, longer-layouts, state-later, layout-later, legal-later, noted-longer, start-state, start-layout}
+use Rattle.grid_model.proofs.Boxes.{one-value}
+use Rattle.grid_model.proofs.Prepending.{state-later, layout-later, legal-later, noted-longer, start-state, start-layout}
 use Rattle.grid_model.proofs.States.{after-there, remove-lawful, lone-state, opened-state, free-pages, kept-pages}
 
 -- a history has this state at its front's place: the place is one of it, and its table and layout stand there
@@ -210,7 +208,7 @@ module _ {K : ℕ} (shape : Shape) (caller : ℕ) where
       }
 
       each : (i : ℕ) (q : Request K) (reply : Reply K) → slice_get (r ∷ rs) i ≡ Some q → slice_get ((lone shape s r).reply ∷ answers shape (lone shape s r).state rs) i ≡ Some reply → IsLegal shape m.history m.layouts caller q reply ⊎ IsRefusal reply
-      each zero q reply e f = fits m.history m.layouts r q (lone shape s r).reply reply (some-is r q e) (some-is (lone shape s r).reply reply f) (legal m.history m.layouts stands)
+      each zero q reply e f = fits m.history m.layouts r q (lone shape s r).reply reply (one-value r q e) (one-value (lone shape s r).reply reply f) (legal m.history m.layouts stands)
       each (suc i) q reply e f = m.is_history.legal i q reply e f
 
   -- and one with the update in front, where it made one
@@ -262,7 +260,7 @@ module _ {K : ℕ} (shape : Shape) (caller : ℕ) where
       later q reply (inr w) = inr w
 
       each : (i : ℕ) (q : Request K) (reply : Reply K) → slice_get (r ∷ rs) i ≡ Some q → slice_get ((lone shape s r).reply ∷ answers shape (lone shape s r).state rs) i ≡ Some reply → IsLegal shape whole all caller q reply ⊎ IsRefusal reply
-      each zero q reply e f = fits whole all r q (lone shape s r).reply reply (some-is r q e) (some-is (lone shape s r).reply reply f) (inl (legal whole all there (start-state whole s.front refl)))
+      each zero q reply e f = fits whole all r q (lone shape s r).reply reply (one-value r q e) (one-value (lone shape s r).reply reply f) (inl (legal whole all there (start-state whole s.front refl)))
       each (suc i) q reply e f = later q reply (m.is_history.legal i q reply e f)
 
 module _ {K : ℕ} (shape : Shape) (caller : ℕ) (keeps : KeepsSound K) (least : IsLeastUnused K) (merging : MergesTwo K) where

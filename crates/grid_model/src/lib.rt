@@ -1,9 +1,10 @@
 //! What the grid file means: definitions in `specs/`, and their laws as the contracts of functions without code.
 #![tactic(auto)]
 
-ghost use Rattle.grid_model.specs.TableLaws.{IsFiniteMap};
+mod merging;
+mod scripts;
+mod tables;
 
-/// The law of tables.
-pub fn table_law<const K: usize>()
-    ensures { IsFiniteMap K }
-{}
+pub use merging::merge_law;
+pub use scripts::{script_law, text_law};
+pub use tables::{listing_law, state_law, table_law};

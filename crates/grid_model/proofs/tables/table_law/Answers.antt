@@ -1,5 +1,5 @@
 use Rattle.grid_model.proofs.TableLaws.{same_tables, effect-table, put-there, put-elsewhere, gone-there, gone-elsewhere, update-there, update-elsewhere, removal-there, removal-elsewhere}
-use Rattle.grid_model.proofs.table_law.Goals as goal
+use Rattle.grid_model.proofs.tables.table_law.Goals as goal
 
 pub returns : goal.returns
 returns g c = record {
