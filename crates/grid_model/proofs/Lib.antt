@@ -17,6 +17,7 @@ pub mod Prepending
 pub mod Telling
 pub mod Reading
 pub mod Printing
+mod TwoClients
 mod Rows
 mod Drawn
 mod Merges
