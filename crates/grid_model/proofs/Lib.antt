@@ -1,5 +1,10 @@
 pub mod TableLaws
 pub mod AnswerLaws
+pub mod Found
+pub mod CutRegions
+pub mod LeastUnused
+pub mod HolderLaws
+pub mod RegionCounts
 mod Rows
 mod Drawn
 mod Merges

@@ -18,7 +18,7 @@ one_key : IsAntisymmetric key_cmp
 one_key = slice_cmp-IsAntisymmetric nat_cmp-IsAntisymmetric
 
 -- a test that an ordering answers Equal is true only there
-equal_order : (o : Ordering) → is_eq o ≡ true → o ≡ Equal
+pub equal_order : (o : Ordering) → is_eq o ≡ true → o ≡ Equal
 equal_order Less e = absurd (subst T (sym e) tt)
 equal_order Equal e = refl
 equal_order Greater e = absurd (subst T (sym e) tt)
