@@ -5,6 +5,9 @@ pub mod CutRegions
 pub mod LeastUnused
 pub mod HolderLaws
 pub mod RegionCounts
+pub mod LayoutKept
+pub mod NewLayout
+pub mod CutScales
 mod Rows
 mod Drawn
 mod Merges

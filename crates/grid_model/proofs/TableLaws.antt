@@ -31,7 +31,7 @@ keys_differ k q differ = by (eq_by_cmp key_cmp k q) refl
     by false e = refl
 
 -- a test of keys answers alike at keys that tie
-alike : (p : List ℕ → Bool) (q x : List ℕ) → key_cmp q x ≡ Equal → p x ≡ p q
+pub alike : (p : List ℕ → Bool) (q x : List ℕ) → key_cmp q x ≡ Equal → p x ≡ p q
 alike p q x e = ap p (sym (one_key q x e))
 
 pub same_tables : (s t : Table) → IsTable s → IsTable t → ((k : List ℕ) → get s k ≡ get t k) → s ≡ t
