@@ -67,14 +67,16 @@ above-low r a v w = ltb-true (slice_index r.lo a) v (first (nat_lt (slice_index 
 pub up-to-high : {K : ℕ} (r : Region K) (a v : ℕ) → IsTrue (is_within r a v) → v ≤ slice_index r.hi a
 up-to-high r a v w = leb-true v (slice_index r.hi a) (second (nat_lt (slice_index r.lo a) v) (nat_le v (slice_index r.hi a)) w)
 
-left-contains : {K : ℕ} (b : Box K) (c : Cut) (k : List ℕ) → IsRegion K b.region → c.attribute < K → IsTrue (is_within b.region c.attribute c.value)
+-- the left part has the keys of the box below the boundary
+pub left-contains : {K : ℕ} (b : Box K) (c : Cut) (k : List ℕ) → IsRegion K b.region → c.attribute < K → IsTrue (is_within b.region c.attribute c.value)
     → contains (left_of b c).region k ≡ (contains b.region k && nat_lt (slice_index k c.attribute) c.value)
 left-contains b c k r i w =
     let lo : slice_index b.region.lo c.attribute < c.value = above-low b.region c.attribute c.value w in
     ap (λ t. pointwise nat_le b.region.lo k && t) (high_part k b.region.hi c.attribute c.value (omega (arith, lo)) (up-to-high b.region c.attribute c.value w))
     ∙ and_assoc (pointwise nat_le b.region.lo k) (pointwise nat_le k b.region.hi) (nat_lt (slice_index k c.attribute) c.value)
 
-right-contains : {K : ℕ} (b : Box K) (c : Cut) (k : List ℕ) → IsRegion K b.region → c.attribute < K → IsTrue (is_within b.region c.attribute c.value)
+-- the right part has the others
+pub right-contains : {K : ℕ} (b : Box K) (c : Cut) (k : List ℕ) → IsRegion K b.region → c.attribute < K → IsTrue (is_within b.region c.attribute c.value)
     → contains (right_of b c).region k ≡ (contains b.region k && nat_le c.value (slice_index k c.attribute))
 right-contains b c k r i w =
     let count : length b.region.lo ≡ _ = r.low.count in

@@ -9,10 +9,12 @@ use Rattle.grid_types.specs.Regions.{contains}
 use Rattle.grid_model.specs.Layouts.{Box, Layout, box, holder}
 use Rattle.grid_model.proofs.Found.{one-number, ties-itself, same-found, is-found}
 
+-- the first of two tests that both pass
 pub part_one : (a b : Bool) → T (a && b) → T a
 part_one true b p = tt
 part_one false b p = p
 
+-- and the second
 pub part_two : (a b : Bool) → T (a && b) → T b
 part_two true b p = p
 part_two false b p = absurd p

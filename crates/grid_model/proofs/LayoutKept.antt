@@ -27,18 +27,18 @@ one_key : (k q : List ℕ) → eq_by_cmp key_cmp k q ≡ true → k ≡ q
 one_key k q e = slice_cmp-IsAntisymmetric nat_cmp-IsAntisymmetric k q (equal_order (key_cmp k q) e)
 
 -- a put of a key keeps a table's keys lawful
-pub keys-put : {K : ℕ} (t : Table) (r : Record K) → IsKey K r.key.at → HasKeys K t → HasKeys K (effect t (Put r))
+pub keys-after-put : {K : ℕ} (t : Table) (r : Record K) → IsKey K r.key.at → HasKeys K t → HasKeys K (effect t (Put r))
 unfolding effect
-keys-put {K} t r key keys q d e = by (eq_by_cmp key_cmp q r.key.at) refl
+keys-after-put {K} t r key keys q d e = by (eq_by_cmp key_cmp q r.key.at) refl
   where
     by : (b : Bool) → eq_by_cmp key_cmp q r.key.at ≡ b → IsKey K q
     by true same = subst (IsKey K) (sym (one_key q r.key.at same)) key
     by false differ = keys q d (ap (λ b. cond b (Some r.value) (get t q)) (sym differ) ∙ sym (find-put key_cmp nat_list_cmp_total q r.key.at r.value t) ∙ e)
 
 -- and so does a removal
-pub keys-without : {K : ℕ} (t : Table) (k : Key K) → HasKeys K t → HasKeys K (effect t (Remove k))
+pub keys-after-removal : {K : ℕ} (t : Table) (k : Key K) → HasKeys K t → HasKeys K (effect t (Remove k))
 unfolding effect
-keys-without {K} t k keys q d e = by (eq_by_cmp key_cmp k.at q) refl
+keys-after-removal {K} t k keys q d e = by (eq_by_cmp key_cmp k.at q) refl
   where
     is : cond (not (eq_by_cmp key_cmp k.at q)) (get t q) None ≡ Some d
     is = sym (find-where_key key_cmp (λ x. not (eq_by_cmp key_cmp k.at x)) q (alike (λ x. not (eq_by_cmp key_cmp k.at x)) q) t) ∙ e
@@ -73,7 +73,7 @@ kept-layout shape L t s h table keys room = record {
 -- a removal without a merge leaves the layout
 pub remove-plain : {K : ℕ} (shape : Shape) (L : Layout K) (t : Table) (k : Key K) → StandsOver shape L t → StandsOver shape L (effect t (Remove k))
 unfolding effect
-remove-plain shape L t k h = kept-layout shape L t (effect t (Remove k)) h (effect-table t (Remove k) h.table) (keys-without t k h.keys) (λ n b there.
+remove-plain shape L t k h = kept-layout shape L t (effect t (Remove k)) h (effect-table t (Remove k) h.table) (keys-after-removal t k h.keys) (λ n b there.
     let least = count-without (contains b.region) k.at t in
     let room = h.sound.room n b there in
     omega (arith, least, room))
@@ -133,7 +133,7 @@ put-never-merges {K} shape L t k m e = by (holder L k) e
 -- a put without a cut leaves the layout
 pub put-plain : {K : ℕ} (shape : Shape) (L : Layout K) (t : Table) (r : Record K) → StandsOver shape L t → IsKey K r.key.at → put_note shape L t r.key.at ≡ Some note.Plain → StandsOver shape L (effect t (Put r))
 unfolding effect
-put-plain {K} shape L t r h key e = kept-layout shape L t (effect t (Put r)) h (effect-table t (Put r) h.table) (keys-put t r key h.keys) (λ n b there. room n b there (noted shape L t r.key.at p.here note.Plain p.noted))
+put-plain {K} shape L t r h key e = kept-layout shape L t (effect t (Put r)) h (effect-table t (Put r) h.table) (keys-after-put t r key h.keys) (λ n b there. room n b there (noted shape L t r.key.at p.here note.Plain p.noted))
   where
     p : PutBox shape L t r.key.at note.Plain
     p = put-box shape L t r.key.at note.Plain h e

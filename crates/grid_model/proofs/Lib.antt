@@ -8,6 +8,9 @@ pub mod RegionCounts
 pub mod LayoutKept
 pub mod NewLayout
 pub mod CutScales
+pub mod CutBoxes
+pub mod CutParts
+pub mod LayoutLaws
 mod Rows
 mod Drawn
 mod Merges
