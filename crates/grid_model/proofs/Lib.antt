@@ -1,6 +1,7 @@
 pub mod TableLaws
 pub mod AnswerLaws
 pub mod Listed
+pub mod Found
 pub mod Counts
 pub mod Refining
 pub mod Numbered
@@ -11,6 +12,15 @@ pub mod Hulls
 pub mod Partners
 pub mod Joined
 pub mod Merged
+pub mod CutRegions
+pub mod LeastUnused
+pub mod RegionCounts
+pub mod LayoutKept
+pub mod NewLayout
+pub mod CutScales
+pub mod CutBoxes
+pub mod CutParts
+pub mod LayoutLaws
 pub mod Swapping
 pub mod States
 pub mod Prepending

@@ -1,0 +1,220 @@
+-- A lawful note keeps a layout sound.
+use Rattle.std.proofs.Common.{◌≡◌, ◌≢◌, ◌<◌, ◌≤◌, ◌+◌, ◌-◌, ◌^◌, ◌⊎◌, inl, inr, ℕ, Bool, true, false, List, [], map, length, get_or, slice_index, slice_set, Option, Some, None, refl, sym, ap, subst, ◌∙◌, arith, IsTrue, Contains, nat_cmp}
+use Rattle.std.proofs.lemmas.List.{length-set, length-map, get_or-map, get_or-set_same, get_or-set_other}
+use Rattle.std.specs.Ordering.{eq_by_cmp}
+use Rattle.std.specs.Option.{option_map_or}
+use Rattle.grid_types.specs.declared.key.Key.{Key}
+use Rattle.grid_types.specs.declared.note.Cut.{Cut}
+use Rattle.grid_types.specs.declared.note.NoteOf.{NoteOf}
+use Rattle.grid_types.specs.declared.note.NoteOf.TheVariants as note
+use Rattle.grid_types.specs.declared.shape.Shape.{Shape}
+use Rattle.grid_types.specs.declared.update.Record.{Record}
+use Rattle.grid_types.specs.declared.update.Update.{Update}
+use Rattle.grid_types.specs.declared.update.Update.TheVariants.{Put, Remove}
+use Rattle.grid_types.specs.Keys.{IsKey}
+use Rattle.grid_types.specs.Regions.{contains, IsRegion}
+use Rattle.grid_model.specs.Tables.{Table, with_data, without, effect}
+use Rattle.grid_model.specs.Scales.{scale_of, is_drawn}
+use Rattle.grid_model.specs.Layouts.{Box, Layout, box, holder, inside, unused, IsDrawn}
+use Rattle.grid_model.specs.Cuts.{cut}
+use Rattle.grid_model.specs.Notes.{key_of, put_note, merges, merges_at, left_of, right_of, next_turn, scales_after, cut_note, keys_with, after, after_at, split, IsLawful}
+use Rattle.grid_model.specs.Neighbours.{partners}
+use Rattle.grid_model.specs.ScaleLaws.{PartsNumbers}
+use Rattle.grid_model.specs.CutLaws.{CutsBest}
+use Rattle.grid_model.specs.LayoutLaws.{StandsOver, Fits, KeepsSound}
+use Rattle.grid_model.proofs.TableLaws.{effect-table}
+use Rattle.grid_model.proofs.Found.{one-number, two-numbers}
+use Rattle.grid_model.proofs.LeastUnused.{least-unused}
+use Rattle.grid_model.proofs.RegionCounts.{count-put-outside}
+use Rattle.grid_model.proofs.CutRegions.{above-low, up-to-high}
+use Rattle.grid_model.proofs.CutScales.{AreScales, AreAfter, cut-scales, drawn-below, drawn-above}
+use Rattle.grid_model.proofs.CutBoxes.{each-part, split-numbered, length-split, split-covers, split-apart}
+use Rattle.grid_model.proofs.CutParts.{Cuts, cuts}
+use Rattle.grid_model.proofs.LayoutKept.{keys-after-put, remove-plain, put-plain, put-never-merges, PutBox, put-box, Noted, There, HasRoom, IsCut, noted}
+use Rattle.grid_model.proofs.NewLayout.{new-stands}
+
+-- what a list of numbers with one other number has at a place
+set_each : (P : ℕ → ℕ → Type 0) (xs : List ℕ) (a v i : ℕ) → a < length xs → P a v → P i (slice_index xs i) → P i (slice_index (slice_set xs a v) i)
+set_each P xs a v i inside here there = by (eq_by_cmp nat_cmp i a) refl
+  where
+    by : (b : Bool) → eq_by_cmp nat_cmp i a ≡ b → P i (slice_index (slice_set xs a v) i)
+    by true e = subst (λ j. P j (slice_index (slice_set xs a v) j)) (sym (one-number i a e)) (subst (P a) (sym (get_or-set_same xs a v 0 inside)) here)
+    by false e = subst (P i) (sym (get_or-set_other xs a i v 0 (two-numbers i a e))) there
+
+module _ {K : ℕ} (numbers : PartsNumbers) (shape : Shape) (L : Layout K) (t : Table) (r : Record K) (n : ℕ) (b : Box K) (c : Cut) (h : StandsOver shape L t) (key : IsKey K r.key.at) (there : box L n ≡ Some b)
+    (has : contains b.region r.key.at ≡ true) (is : Cuts shape L.scales b t r.key.at c) where
+  scales : AreScales K shape L.scales
+  scales = record { attributes = h.sound.attributes; ascend = h.sound.scales; few_boundaries = h.sound.few_boundaries; few_cells = h.sound.few_cells }
+
+  after_cut : AreAfter K shape L.scales (scales_after L.scales c) c.attribute c.value
+  after_cut = cut-scales numbers shape L.scales scales c is.attribute is.scale
+
+  region : IsRegion K b.region
+  region = h.sound.regions n b there
+
+  above : slice_index b.region.lo c.attribute < c.value
+  above = above-low b.region c.attribute c.value is.within
+
+  most : c.value ≤ slice_index b.region.hi c.attribute
+  most = up-to-high b.region c.attribute c.value is.within
+
+  last : slice_index b.region.hi c.attribute < 2 ^ 64
+  last = region.high.in_range c.attribute
+
+  in_low : c.attribute < length b.region.lo
+  in_low = let count : length b.region.lo ≡ K = region.low.count in let inside = is.attribute in omega (arith, count, inside)
+
+  in_high : c.attribute < length b.region.hi
+  in_high = let count : length b.region.hi ≡ K = region.high.count in let inside = is.attribute in omega (arith, count, inside)
+
+  left_region : IsRegion K (left_of b c).region
+  left_region = record {
+    low = region.low;
+    high = record {
+      count = length-set b.region.hi c.attribute (c.value - 1) ∙ region.high.count;
+      in_range = λ a. set_each (λ _ x. x < 2 ^ 64) b.region.hi c.attribute (c.value - 1) a in_high (omega (arith, most, last)) (region.high.in_range a);
+    };
+    not_empty = λ a i. set_each (λ j x. slice_index b.region.lo j ≤ x) b.region.hi c.attribute (c.value - 1) a in_high (omega (arith, above)) (region.not_empty a i);
+  }
+
+  right_region : IsRegion K (right_of b c).region
+  right_region = record {
+    low = record {
+      count = length-set b.region.lo c.attribute c.value ∙ region.low.count;
+      in_range = λ a. set_each (λ _ x. x < 2 ^ 64) b.region.lo c.attribute c.value a in_low (omega (arith, most, last)) (region.low.in_range a);
+    };
+    high = region.high;
+    not_empty = λ a i. set_each (λ j x. x ≤ slice_index b.region.hi j) b.region.lo c.attribute c.value a in_low most (region.not_empty a i);
+  }
+
+  -- a box that was drawn is drawn on the scales after the cut
+  still_drawn : (m : ℕ) (d : Box K) → box L m ≡ Some d → IsDrawn (scales_after L.scales c) d
+  still_drawn m d at a i = after_cut.drawn a (slice_index d.region.lo a) (slice_index d.region.hi a) i (h.sound.drawn m d at a i)
+
+  left_drawn : IsDrawn (scales_after L.scales c) (left_of b c)
+  left_drawn a i = set_each (λ j x. IsTrue (is_drawn (scale_of (scales_after L.scales c) j) (slice_index b.region.lo j) x)) b.region.hi c.attribute (c.value - 1) a in_high
+      (drawn-below (scale_of (scales_after L.scales c) c.attribute) c.value (slice_index b.region.lo c.attribute) (slice_index b.region.hi c.attribute) after_cut.boundary (still_drawn n b there c.attribute is.attribute))
+      (still_drawn n b there a i)
+
+  right_drawn : IsDrawn (scales_after L.scales c) (right_of b c)
+  right_drawn a i = set_each (λ j x. IsTrue (is_drawn (scale_of (scales_after L.scales c) j) x (slice_index b.region.hi j))) b.region.lo c.attribute c.value a in_low
+      (drawn-above (scale_of (scales_after L.scales c) c.attribute) c.value (slice_index b.region.lo c.attribute) (slice_index b.region.hi c.attribute) after_cut.boundary (still_drawn n b there c.attribute is.attribute))
+      (still_drawn n b there a i)
+
+  turn : next_turn K c < K
+  turn = let inside = is.attribute in omega (arith, inside)
+
+  none : box L (unused L) ≡ None
+  none = least-unused.none L
+
+  room : length (inside t b.region) ≤ shape.capacity
+  room = h.sound.room n b there
+
+  -- a box without the key has as many records as before
+  other_room : (m : ℕ) (d : Box K) → box L m ≡ Some d → m ≢ n → length (inside (with_data t r.key.at r.value) d.region) ≤ shape.capacity
+  other_room m d at differ = by (contains d.region r.key.at) refl
+    where
+      by : (s : Bool) → contains d.region r.key.at ≡ s → length (inside (with_data t r.key.at r.value) d.region) ≤ shape.capacity
+      by true e = absurd (differ (h.sound.apart r.key.at m n d b at there e has))
+      by false e = let same = count-put-outside (contains d.region) r.key.at r.value t e in let old = h.sound.room m d at in omega (arith, same, old)
+
+  -- the new number is below the number of pages
+  unused_below : Fits shape (split L n b c (unused L)) → unused L < shape.pages
+  unused_below fits =
+      let few : unused L ≤ length L.boxes = least-unused.few L in
+      let one_more : length (split L n b c (unused L)).boxes ≡ length L.boxes + 1 = length-split L n b c (unused L) there none h.sound.numbered in
+      omega (arith, few, one_more, fits)
+
+  -- a layout with a box cut stands over the table after the put
+  split-stands : Fits shape (split L n b c (unused L)) → StandsOver shape (split L n b c (unused L)) (effect t (Put r))
+  unfolding split effect
+  split-stands fits = record {
+    lawful = h.lawful;
+    attributes = h.attributes;
+    table = effect-table t (Put r) h.table;
+    keys = keys-after-put t r key h.keys;
+    sound = record {
+      attributes = after_cut.lawful.attributes;
+      scales = after_cut.lawful.ascend;
+      few_boundaries = after_cut.lawful.few_boundaries;
+      few_cells = after_cut.lawful.few_cells;
+      numbered = split-numbered L n b c (unused L) there none h.sound.numbered;
+      regions = each-part L n b c (unused L) there none (λ _ d. IsRegion K d.region) left_region right_region (λ m d at _. h.sound.regions m d at);
+      turns = each-part L n b c (unused L) there none (λ _ d. d.turn < K) turn turn (λ m d at _. h.sound.turns m d at);
+      drawn = each-part L n b c (unused L) there none (λ _ d. IsDrawn (scales_after L.scales c) d) left_drawn right_drawn (λ m d at _. still_drawn m d at);
+      covers = λ k k_is. split-covers L n b c (unused L) there none region is.attribute is.within k h.sound.numbered (h.sound.covers k k_is);
+      apart = split-apart L n b c (unused L) there none region is.attribute is.within h.sound.apart;
+      room = each-part L n b c (unused L) there none (λ _ d. length (inside (with_data t r.key.at r.value) d.region) ≤ shape.capacity)
+          (let fewer = is.left r.value in omega (arith, fewer, room)) (let fewer = is.right r.value in omega (arith, fewer, room)) other_room;
+      below_pages = each-part L n b c (unused L) there none (λ m _. m < shape.pages) (h.sound.below_pages n b there) (unused_below fits) (λ m d at _. h.sound.below_pages m d at);
+    };
+  }
+
+-- a layout after a note is the one that the box of the key gives
+after-held : {K : ℕ} (L : Layout K) (k : List ℕ) (n : NoteOf) (e : ℕ × Box K) → holder L k ≡ Some e → after L k n ≡ after_at L e n
+unfolding after
+after-held L k n e held = ap (λ o. option_map_or (λ x. after_at L x n) o L) held
+
+-- without a cut or a merge it is the layout as it was
+after-plain : {K : ℕ} (L : Layout K) (k : List ℕ) → after L k note.Plain ≡ L
+unfolding after
+after-plain {K} L k = by (holder L k)
+  where
+    by : (o : Option (ℕ × Box K)) → option_map_or (λ e. after_at L e note.Plain) o L ≡ L
+    by None = refl
+    by (Some e) = refl
+
+-- a put with a cut keeps a layout sound
+pub put-cut : {K : ℕ} → PartsNumbers → CutsBest K → (shape : Shape) (L : Layout K) (t : Table) (r : Record K) (c : Cut) (right : ℕ) → StandsOver shape L t → IsKey K r.key.at
+    → put_note shape L t r.key.at ≡ Some (note.Cut c right) → Fits shape (after L r.key.at (note.Cut c right)) → StandsOver shape (after L r.key.at (note.Cut c right)) (effect t (Put r))
+put-cut {K} numbers best shape L t r c right h key e fits = by (noted shape L t r.key.at p.here (note.Cut c right) p.noted)
+  where
+    p : PutBox shape L t r.key.at (note.Cut c right)
+    p = put-box shape L t r.key.at (note.Cut c right) h e
+
+    held : (n : NoteOf) → after L r.key.at n ≡ after_at L (p.number, p.here) n
+    held n = after-held L r.key.at n (p.number, p.here) p.held
+
+    stands : (d : Cut) → cut shape L.scales p.here (keys_with t p.here.region r.key.at) ≡ Some d → Fits shape (after L r.key.at (cut_note L d)) → StandsOver shape (after L r.key.at (cut_note L d)) (effect t (Put r))
+    stands d is enough = subst (λ (M : Layout K). StandsOver shape M (effect t (Put r))) (sym (held (cut_note L d)))
+        (split-stands numbers shape L t r p.number p.here d h key p.there p.has (cuts best shape L.scales p.here t r.key.at d h.sound.attributes (h.sound.regions p.number p.here p.there) is) (subst (λ (M : Layout K). Fits shape M) (held (cut_note L d)) enough))
+
+    by : Noted shape L t r.key.at p.here (note.Cut c right) → StandsOver shape (after L r.key.at (note.Cut c right)) (effect t (Put r))
+    by (There same _) = absurd (cc)
+    by (HasRoom same _) = absurd (cc)
+    by (IsCut d same is) = subst (λ n. StandsOver shape (after L r.key.at n) (effect t (Put r))) (sym same) (stands d is (subst (λ n. Fits shape (after L r.key.at n)) same fits))
+
+-- a note that a remove may merge by is a merge
+merges_only : {K : ℕ} (shape : Shape) (L : Layout K) (t : Table) (k : List ℕ) (c : Cut) (right : ℕ) → Contains (merges shape L t k) (note.Cut c right) → ⊥
+unfolding merges
+merges_only {K} shape L t k c right h = by (holder L k) h
+  where
+    none : (ms : List ℕ) (i : ℕ) → i < length (map note.Merge ms) → get_or (map note.Merge ms) i (note.Cut c right) ≡ note.Cut c right → ⊥
+    none ms i l e = let long = length-map ms note.Merge in let is = get_or-map note.Merge ms i 0 (note.Cut c right) (omega (arith, l, long)) in cc
+
+    by : (o : Option (ℕ × Box K)) → Contains (option_map_or (λ e. merges_at shape L t k e.1) o []) (note.Cut c right) → ⊥
+    by None h = absurd (omega (arith, h.1))
+    by (Some e) h = none (partners shape L (without t k) e.1.region) h.0 h.1 h.2
+
+-- lawful notes keep layouts sound, where merges do
+pub keeps-sound : {K : ℕ} → PartsNumbers → CutsBest K
+    → ((shape : Shape) (L : Layout K) (t : Table) (k : Key K) (m : ℕ) → StandsOver shape L t → Contains (merges shape L t k.at) (note.Merge m) → StandsOver shape (after L k.at (note.Merge m)) (effect t (Remove k)))
+    → KeepsSound K
+keeps-sound {K} numbers best merge = record { new = new-stands; after = kept }
+  where
+    plain : (shape : Shape) (L : Layout K) (k : List ℕ) (s : Table) → StandsOver shape L s → StandsOver shape (after L k note.Plain) s
+    plain shape L k s h = subst (λ (M : Layout K). StandsOver shape M s) (sym (after-plain L k)) h
+
+    removed : (shape : Shape) (L : Layout K) (t : Table) (k : Key K) (n : NoteOf) → StandsOver shape L t → (n ≡ note.Plain) ⊎ Contains (merges shape L t k.at) n → StandsOver shape (after L k.at n) (effect t (Remove k))
+    removed shape L t k note.Plain h e = plain shape L k.at (effect t (Remove k)) (remove-plain shape L t k h)
+    removed shape L t k (note.Cut c right) h (inl e) = absurd (cc)
+    removed shape L t k (note.Cut c right) h (inr e) = absurd (merges_only shape L t k.at c right e)
+    removed shape L t k (note.Merge m) h (inl e) = absurd (cc)
+    removed shape L t k (note.Merge m) h (inr e) = merge shape L t k m h e
+
+    kept : (shape : Shape) (L : Layout K) (t : Table) (u : Update K) (n : NoteOf) → StandsOver shape L t → IsKey K (key_of u) → IsLawful shape L t u n
+        → Fits shape (after L (key_of u) n) → StandsOver shape (after L (key_of u) n) (effect t u)
+    kept shape L t (Put r) note.Plain h key e fits = plain shape L r.key.at (effect t (Put r)) (put-plain shape L t r h key e)
+    kept shape L t (Put r) (note.Cut c right) h key e fits = put-cut numbers best shape L t r c right h key e fits
+    kept shape L t (Put r) (note.Merge m) h key e fits = absurd (put-never-merges shape L t r.key.at m e)
+    kept shape L t (Remove k) n h key e fits = removed shape L t k n h e.1
