@@ -1,5 +1,6 @@
 pub mod TableLaws
 pub mod AnswerLaws
+pub mod ScaleLaws
 mod Rows
 mod Drawn
 mod Merges

@@ -1,7 +1,11 @@
 //! What the grid file means: definitions in `specs/`, and their laws as the contracts of functions without code.
 #![tactic(auto)]
 
+mod scales;
+
 ghost use Rattle.grid_model.specs.TableLaws.{IsFiniteMap};
+
+pub use scales::scale_law;
 
 /// The law of tables.
 pub fn table_law<const K: usize>()
