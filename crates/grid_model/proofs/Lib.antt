@@ -1,6 +1,7 @@
 pub mod TableLaws
 pub mod AnswerLaws
 pub mod ScaleLaws
+pub mod LeastLaws
 mod Rows
 mod Drawn
 mod Merges

@@ -1,10 +1,12 @@
 //! What the grid file means: definitions in `specs/`, and their laws as the contracts of functions without code.
 #![tactic(auto)]
 
+mod cuts;
 mod scales;
 
 ghost use Rattle.grid_model.specs.TableLaws.{IsFiniteMap};
 
+pub use cuts::least_law;
 pub use scales::scale_law;
 
 /// The law of tables.
