@@ -1,6 +1,5 @@
 -- The least of a list.
-use Rattle.std.proofs.Common.{◌≡◌, ◌<◌, ℕ, zero, suc, Bool, true, false, cond, List, [], ◌∷◌, length, get_or, refl, sym, ap, subst, ◌∙◌, true≢false, Some, None, fold, ◌++◌, Contains, arith}
-use Rattle.std.specs.Option.{option_map_or}
+use Rattle.std.proofs.Common.{◌≡◌, ◌<◌, ℕ, zero, suc, Bool, true, false, cond, List, [], ◌∷◌, length, get_or, refl, sym, ap, subst, ◌∙◌, true≢false, Some, None, fold, Contains, arith}
 use Rattle.std.specs.List.{AllByRecursion}
 use Rattle.std.specs.Ordering.{nat_cmp, is_lt, ordering_reverse}
 use Rattle.std.specs.declared.cmp.Ordering.{Ordering}
@@ -43,16 +42,6 @@ not_below x m y mx ym =
 module _ {X : Type 0} (rank : X → List ℕ) where
   abbrev best : X → List X → X
   best x xs = fold (lower rank) x xs
-
-  -- one more element: the better of it and the best so far
-  pub best-push : (x : X) (xs : List X) (y : X) → best x (xs ++ y ∷ []) ≡ lower rank (best x xs) y
-  best-push x [] y = refl
-  best-push x (z ∷ xs) y = best-push (lower rank x z) xs y
-
-  -- the least with one more element
-  pub least-push : (xs : List X) (y : X) → least rank (xs ++ y ∷ []) ≡ option_map_or (λ x. Some (lower rank x y)) (least rank xs) (Some y)
-  least-push [] y = refl
-  least-push (x ∷ xs) y = ap Some (best-push x xs y)
 
   -- neither of two is below the lower
   lower-first : (x y : X) → ranks_below (rank x) (rank (lower rank x y)) ≡ false

@@ -3,10 +3,12 @@
 
 mod cuts;
 mod scales;
+#[cfg(test)]
+mod tests;
 
 ghost use Rattle.grid_model.specs.TableLaws.{IsFiniteMap};
 
-pub use cuts::least_law;
+pub use cuts::{Candidate, best, least_law};
 pub use scales::scale_law;
 
 /// The law of tables.
