@@ -2,6 +2,7 @@ pub mod TableLaws
 pub mod AnswerLaws
 pub mod ScaleLaws
 pub mod LeastLaws
+pub mod Members
 mod Rows
 mod Drawn
 mod Merges
