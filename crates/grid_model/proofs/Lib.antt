@@ -3,6 +3,8 @@ pub mod AnswerLaws
 pub mod ScaleLaws
 pub mod LeastLaws
 pub mod Members
+pub mod Choosing
+pub mod CutLaws
 mod Rows
 mod Drawn
 mod Merges

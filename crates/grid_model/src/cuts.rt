@@ -2,7 +2,7 @@
 ghost use Rattle.std.specs.Prelude.{◌≡◌};
 ghost use Rattle.grid_model.specs.Lists.{ranks_below, least};
 ghost use Rattle.grid_model.specs.Candidates.{candidate_rank};
-ghost use Rattle.grid_model.specs.CutLaws.{HasLeast};
+ghost use Rattle.grid_model.specs.CutLaws.{HasLeast, CutsBest};
 
 /// A boundary at which a bucket may be cut, with the number of keys by which one part would be longer.
 #[derive(Clone, Copy, Debug, PartialEq, Eq)]
@@ -46,4 +46,10 @@ pub fn best(candidates: &[Candidate]) -> Option<Candidate>
 /// The law of the least: the least of some items is one of them, and none ranks below it.
 pub fn least_law<X>()
     ensures { HasLeast X }
+{}
+
+/// The law of cuts: a cut is at the best existing boundary, else at the best value of the first
+/// attribute in turn that has one, and there is none only where there is neither.
+pub fn cut_law<const K: usize>()
+    ensures { CutsBest K }
 {}

@@ -8,7 +8,7 @@ mod tests;
 
 ghost use Rattle.grid_model.specs.TableLaws.{IsFiniteMap};
 
-pub use cuts::{Candidate, best, least_law};
+pub use cuts::{Candidate, best, cut_law, least_law};
 pub use scales::scale_law;
 
 /// The law of tables.
