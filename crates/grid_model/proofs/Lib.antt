@@ -5,6 +5,8 @@ pub mod LeastLaws
 pub mod Members
 pub mod Choosing
 pub mod CutLaws
+pub mod Places
+pub mod CellLaws
 mod Rows
 mod Drawn
 mod Merges

@@ -67,6 +67,17 @@ few-intervals (b ∷ bs) v = by (cases_lt v b) (few-intervals bs v)
     by (inl p) few = omega (arith, uncounted b v bs p, few)
     by (inr p) few = omega (arith, counted b v bs p, few)
 
+-- a greater number is in no lower interval
+pub interval-grows : (bs : List ℕ) (x y : ℕ) → x ≤ y → interval bs x ≤ interval bs y
+interval-grows [] x y p = omega arith
+interval-grows (b ∷ bs) x y p = by (cases_lt x b) (cases_lt y b) (interval-grows bs x y p)
+  where
+    by : (x < b) ⊎ (b ≤ x) → (y < b) ⊎ (b ≤ y) → interval bs x ≤ interval bs y → interval (b ∷ bs) x ≤ interval (b ∷ bs) y
+    by (inl q) (inl r) rest = omega (arith, uncounted b x bs q, uncounted b y bs r, rest)
+    by (inl q) (inr r) rest = omega (arith, uncounted b x bs q, counted b y bs r, rest)
+    by (inr q) (inl r) rest = absurd (omega (arith, p, q, r))
+    by (inr q) (inr r) rest = omega (arith, counted b x bs q, counted b y bs r, rest)
+
 at-most-pred : (v b : ℕ) → v < b → v ≤ pred b
 at-most-pred v zero p = absurd (omega (arith, p))
 at-most-pred v (suc b) p = omega (arith, p)

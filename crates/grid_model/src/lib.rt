@@ -9,7 +9,7 @@ mod tests;
 ghost use Rattle.grid_model.specs.TableLaws.{IsFiniteMap};
 
 pub use cuts::{Candidate, best, cut_law, least_law};
-pub use scales::scale_law;
+pub use scales::{cell_law, scale_law};
 
 /// The law of tables.
 pub fn table_law<const K: usize>()
