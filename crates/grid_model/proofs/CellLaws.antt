@@ -63,6 +63,7 @@ old-cell (s ∷ scales) [] a v l p e fresh = absurd (omega (arith, l))
 old-cell (s ∷ scales) (x ∷ k) zero v l p e fresh = ap (λ i. i ∷ cell_of scales k) (before-refined s v x e fresh)
 old-cell (s ∷ scales) (x ∷ k) (suc a) v l p e fresh = ap (λ cell. interval s x ∷ cell) (old-cell scales k a v (omega (arith, l)) (omega (arith, p)) e fresh)
 
+-- cells have places
 pub have-places : (K : ℕ) → HavePlaces K
 have-places K = record {
   count = λ scales. cells-counted (dims scales);

@@ -18,7 +18,7 @@ use Rattle.grid_model.proofs.Members.{contains-none, contains-filter, contains-f
 use Rattle.grid_model.proofs.Choosing.{or-else-some, or-else-none, map-some, map-none, FirstAt, first-there, none-there}
 
 module _ {K : ℕ} (scales : List (List ℕ)) (b : Box K) (keys : List (List ℕ)) where
-  -- the candidates of the definition are exactly those of the law
+  -- each candidate is listed
   pub candidate-listed : (a v : ℕ) → IsCandidate scales b keys a v → Contains (candidates scales b.region keys) (a, v)
   unfolding candidates
   candidate-listed a v c = contains-flat (candidates_in scales b.region keys) (below (length scales)) a (a, v) (contains-range 0 (length scales) a (omega arith) (omega (arith, c.attribute)))
@@ -35,6 +35,7 @@ module _ {K : ℕ} (scales : List (List ℕ)) (b : Box K) (keys : List (List ℕ
         divides = second (is_within b.region a v) (divides keys a v) kept.1;
       }
 
+  -- what is listed is a candidate
   pub listed-candidate : (c : ℕ × ℕ) → Contains (candidates scales b.region keys) c → IsCandidate scales b keys c.0 c.1
   unfolding candidates
   listed-candidate c h =
@@ -47,6 +48,7 @@ module _ {K : ℕ} (scales : List (List ℕ)) (b : Box K) (keys : List (List ℕ
   unfolding best_existing
   no-candidate e a v c = contains-none (a, v) (subst (λ cs. Contains cs (a, v)) (no-least (rank keys) (candidates scales b.region keys) e) (candidate-listed a v c))
 
+  -- the best of those that are listed is the best candidate
   pub best-old : (x : ℕ × ℕ) → best_existing scales b.region keys ≡ Some x → IsBestOld scales b keys (old_cut x)
   unfolding best_existing
   best-old x e = record {
@@ -55,11 +57,12 @@ module _ {K : ℕ} (scales : List (List ℕ)) (b : Box K) (keys : List (List ℕ
   }
 
 module _ (shape : Shape) (scales keys : List (List ℕ)) (a : ℕ) where
-  -- the values of the definition are exactly those of the law
+  -- each value is listed
   pub value-listed : (v : ℕ) → IsValue shape scales keys a v → Contains (dividing_values keys a) v
   unfolding dividing_values
   value-listed v i = contains-filter (λ v. divides keys a v) (map (λ k. slice_index k a) keys) v (contains-among (map (λ k. slice_index k a) keys) v i.value) i.divides
 
+  -- what is listed is a value, where the attribute may grow
   pub listed-value : (v : ℕ) → a < length scales → may_grow shape scales a ≡ true → Contains (dividing_values keys a) v → IsValue shape scales keys a v
   unfolding dividing_values
   listed-value v p grows h =
@@ -80,6 +83,7 @@ module _ (shape : Shape) (scales keys : List (List ℕ)) (a : ℕ) where
     pub best : best_value keys a ≡ Some value
     pub is : new_cut a value ≡ c
 
+  -- each refinement is one
   pub refinement-is : (c : Cut) → refinement shape scales keys a ≡ Some c → IsRefinement c
   unfolding refinement
   refinement-is c e = by (may_grow shape scales a) refl e
@@ -96,13 +100,14 @@ module _ (shape : Shape) (scales keys : List (List ℕ)) (a : ℕ) where
   unfolding best_value
   best-is-least c r v i = none-below-least (value_rank keys a) (dividing_values keys a) r.value v r.best (value-listed v i)
 
--- the cyclic order begins at the turn, and has each attribute
+-- an attribute's place in the cyclic order is how far it is from the turn
 pub cycle-at : (n turn i : ℕ) → i < n → slice_index (cycle n turn) i ≡ (turn + i) % n
 cycle-at n turn i p = get_or-map-range_with_len (λ s. (turn + s) % n) 0 n i i 0 p (omega arith)
 
 cycle-inside : (n turn i : ℕ) → i < length (cycle n turn) → i < n
 cycle-inside n turn i p = omega (arith, p, length-map-range_with_len (λ s. (turn + s) % n) 0 n)
 
+-- the cyclic order has attributes alone
 pub cycle-below : (n turn i : ℕ) → i < length (cycle n turn) → slice_index (cycle n turn) i < n
 cycle-below n turn i p =
     let q : i < n = cycle-inside n turn i p in
@@ -122,6 +127,7 @@ turns-to n turn a p = by (cases_lt a (turn % n)) (mod_below turn n (omega (arith
         let whole : turn % n + (a - turn % n) ≡ a = omega (arith, r) in
         (a - turn % n, omega (arith, p), turned n turn a (a - turn % n) (ap (λ w. w % n) whole ∙ mod-eq_of_lt p))
 
+-- it has each attribute
 pub cycle-has : (n turn a : ℕ) → a < n → Contains (cycle n turn) a
 cycle-has n turn a p =
     let at : (s : ℕ) × (s < n) × ((turn + s) % n ≡ a) = turns-to n turn a p in
@@ -150,37 +156,35 @@ module _ {K : ℕ} (shape : Shape) (scales : List (List ℕ)) (b : Box K) (keys 
         first = λ j v there fresh q i l. no-value shape scales keys (turn i) (f.before i (earlier turn (turn f.place) f.place j i refl fresh l)) v;
       })
 
-  cases : (c : Cut) → cut shape scales b keys ≡ Some c
-      → (option_map old_cut (best_existing scales b.region keys) ≡ Some c) ⊎ ((option_map old_cut (best_existing scales b.region keys) ≡ None) × (first_some (refinements shape scales b.turn keys) ≡ Some c))
+  -- where a cut comes from: it is at the best candidate, or it is the first refinement where there is no candidate
+  pub data Comes (c : Cut) : Type 0 where
+    Old : (x : ℕ × ℕ) → best_existing scales b.region keys ≡ Some x → old_cut x ≡ c → Comes c
+    New : best_existing scales b.region keys ≡ None → FirstAt (refinement shape scales keys) (cycle (length scales) b.turn) c → Comes c
+
+  -- each cut comes from there
+  pub cut-comes : (c : Cut) → cut shape scales b keys ≡ Some c → Comes c
   unfolding cut
-  cases c e = or-else-some (option_map old_cut (best_existing scales b.region keys)) (first_some (refinements shape scales b.turn keys)) c e
+  cut-comes c e = by (or-else-some (option_map old_cut (best_existing scales b.region keys)) (first_some (refinements shape scales b.turn keys)) c e)
+    where
+      old : (x : ℕ × ℕ) × (best_existing scales b.region keys ≡ Some x) × (old_cut x ≡ c) → Comes c
+      old m = Old m.0 m.1 m.2
 
-  old-is : (c : Cut) → option_map old_cut (best_existing scales b.region keys) ≡ Some c → (x : ℕ × ℕ) × (best_existing scales b.region keys ≡ Some x) × (old_cut x ≡ c)
-  old-is c e = map-some old_cut (best_existing scales b.region keys) c e
+      by : (option_map old_cut (best_existing scales b.region keys) ≡ Some c) ⊎ ((option_map old_cut (best_existing scales b.region keys) ≡ None) × (first_some (refinements shape scales b.turn keys) ≡ Some c)) → Comes c
+      by (inl g) = old (map-some old_cut (best_existing scales b.region keys) c g)
+      by (inr g) = New (map-none old_cut (best_existing scales b.region keys) g.0) (first-there (refinement shape scales keys) (cycle (length scales) b.turn) c g.1)
 
-  new-is : (c : Cut) → first_some (refinements shape scales b.turn keys) ≡ Some c → FirstAt (refinement shape scales keys) (cycle (length scales) b.turn) c
-  new-is c e = first-there (refinement shape scales keys) (cycle (length scales) b.turn) c e
-
-  new-is-fresh : (c : Cut) → FirstAt (refinement shape scales keys) (cycle (length scales) b.turn) c → c.fresh ≡ true
-  new-is-fresh c f = ap (λ (c : Cut). c.fresh) (sym (refinement-is shape scales keys (turn f.place) c f.there).is)
+  refinement-is-fresh : (c : Cut) → FirstAt (refinement shape scales keys) (cycle (length scales) b.turn) c → c.fresh ≡ true
+  refinement-is-fresh c f = ap (λ (c : Cut). c.fresh) (sym (refinement-is shape scales keys (turn f.place) c f.there).is)
 
   -- a cut that is not fresh is at the best candidate
-  pub old-cut-best : (c : Cut) → cut shape scales b keys ≡ Some c → c.fresh ≡ false → IsBestOld scales b keys c
-  old-cut-best c e old = by (cases c e)
-    where
-      by : (option_map old_cut (best_existing scales b.region keys) ≡ Some c) ⊎ ((option_map old_cut (best_existing scales b.region keys) ≡ None) × (first_some (refinements shape scales b.turn keys) ≡ Some c))
-          → IsBestOld scales b keys c
-      by (inl g) = let o : (x : ℕ × ℕ) × (best_existing scales b.region keys ≡ Some x) × (old_cut x ≡ c) = old-is c g in subst (λ (c : Cut). IsBestOld scales b keys c) o.2 (best-old scales b keys o.0 o.1)
-      by (inr g) = absurd (true≢false (sym (new-is-fresh c (new-is c g.1)) ∙ old))
+  pub old-cut-best : (c : Cut) → c.fresh ≡ false → Comes c → IsBestOld scales b keys c
+  old-cut-best c old (Old x e is) = subst (λ (c : Cut). IsBestOld scales b keys c) is (best-old scales b keys x e)
+  old-cut-best c old (New none f) = absurd (true≢false (sym (refinement-is-fresh c f) ∙ old))
 
   -- a fresh cut is the best at a new boundary
-  pub new-cut-best : (c : Cut) → cut shape scales b keys ≡ Some c → c.fresh ≡ true → IsBestNew shape scales b keys c
-  new-cut-best c e fresh = by (cases c e)
-    where
-      by : (option_map old_cut (best_existing scales b.region keys) ≡ Some c) ⊎ ((option_map old_cut (best_existing scales b.region keys) ≡ None) × (first_some (refinements shape scales b.turn keys) ≡ Some c))
-          → IsBestNew shape scales b keys c
-      by (inl g) = absurd (true≢false (sym fresh ∙ ap (λ (c : Cut). c.fresh) (sym (old-is c g).2)))
-      by (inr g) = best-new c (map-none old_cut (best_existing scales b.region keys) g.0) (new-is c g.1)
+  pub new-cut-best : (c : Cut) → c.fresh ≡ true → Comes c → IsBestNew shape scales b keys c
+  new-cut-best c fresh (Old x e is) = absurd (true≢false (sym fresh ∙ ap (λ (c : Cut). c.fresh) (sym is)))
+  new-cut-best c fresh (New none f) = best-new c none f
 
   -- where there is no cut there is neither a candidate nor a value
   pub no-cut : cut shape scales b keys ≡ None → (a v : ℕ) → (IsCandidate scales b keys a v → ⊥) × (IsValue shape scales keys a v → ⊥)
@@ -191,9 +195,10 @@ module _ {K : ℕ} (shape : Shape) (scales : List (List ℕ)) (b : Box K) (keys 
         λ i. no-value shape scales keys a (none-there (refinement shape scales keys) (cycle (length scales) b.turn) a parts.1 (cycle-has (length scales) b.turn a i.attribute)) v i,
       )
 
+-- a cut is the best that there is
 pub cuts-best : (K : ℕ) → CutsBest K
 cuts-best K = record {
-  old = old-cut-best;
-  new = new-cut-best;
+  old = λ shape scales b keys c e old. old-cut-best shape scales b keys c old (cut-comes shape scales b keys c e);
+  new = λ shape scales b keys c e fresh. new-cut-best shape scales b keys c fresh (cut-comes shape scales b keys c e);
   none = no-cut;
 }

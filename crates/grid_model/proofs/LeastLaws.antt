@@ -7,6 +7,7 @@ use Rattle.std.specs.declared.cmp.Ordering.TheVariants.{Less, Equal, Greater}
 use Rattle.std.specs.Cmp.{tied_itself}
 use Rattle.std.specs.Cmp.Lexicographic.{slice_cmp, nat_list_cmp_total}
 use Rattle.std.proofs.lemmas.List.Elements.{All-contains, All-from_recursion}
+use Rattle.std.proofs.lemmas.Bool.{false_from_ne_true}
 use Rattle.std.proofs.lemmas.Option.{none-some, same_Some}
 use Rattle.grid_model.specs.CutLaws.{HasLeast}
 use Rattle.grid_model.specs.Lists.{ranks_below, lower, least}
@@ -14,25 +15,21 @@ use Rattle.grid_model.specs.Lists.{ranks_below, lower, least}
 abbrev compare : List ℕ → List ℕ → Ordering
 compare = slice_cmp nat_cmp
 
-less_order : (o : Ordering) → is_lt o ≡ true → o ≡ Less
-less_order Less e = refl
-less_order Equal e = absurd (true≢false (sym e))
-less_order Greater e = absurd (true≢false (sym e))
+less-order : (o : Ordering) → is_lt o ≡ true → o ≡ Less
+less-order Less e = refl
+less-order Equal e = absurd (true≢false (sym e))
+less-order Greater e = absurd (true≢false (sym e))
 
-not_itself : (x : List ℕ) → ranks_below x x ≡ false
-not_itself x = ap is_lt (tied_itself nat_list_cmp_total x)
+not-itself : (x : List ℕ) → ranks_below x x ≡ false
+not-itself x = ap is_lt (tied_itself nat_list_cmp_total x)
 
-not_both : (x y : List ℕ) → ranks_below x y ≡ true → ranks_below y x ≡ false
-not_both x y e = ap is_lt (nat_list_cmp_total.antisymm y x ∙ ap ordering_reverse (less_order (compare x y) e))
-
-false_unless : (b : Bool) → (b ≡ true → ⊥) → b ≡ false
-false_unless true h = absurd (h refl)
-false_unless false h = refl
+not-both : (x y : List ℕ) → ranks_below x y ≡ true → ranks_below y x ≡ false
+not-both x y e = ap is_lt (nat_list_cmp_total.antisymm y x ∙ ap ordering_reverse (less-order (compare x y) e))
 
 -- where y is not below m, and m is not below x, y is not below x
-not_below : (x m y : List ℕ) → ranks_below m x ≡ false → ranks_below y m ≡ false → ranks_below y x ≡ false
-not_below x m y mx ym =
-    false_unless (ranks_below y x) (λ yx. true≢false (sym (ap is_lt (by (compare m y) refl (less_order (compare y x) yx))) ∙ mx))
+not-below : (x m y : List ℕ) → ranks_below m x ≡ false → ranks_below y m ≡ false → ranks_below y x ≡ false
+not-below x m y mx ym =
+    false_from_ne_true (ranks_below y x) (λ yx. true≢false (sym (ap is_lt (by (compare m y) refl (less-order (compare y x) yx))) ∙ mx))
   where
     by : (o : Ordering) → compare m y ≡ o → compare y x ≡ Less → compare m x ≡ Less
     by Less e l = nat_list_cmp_total.trans m y x e l
@@ -48,20 +45,20 @@ module _ {X : Type 0} (rank : X → List ℕ) where
   lower-first x y = by (ranks_below (rank y) (rank x)) refl
     where
       by : (b : Bool) → ranks_below (rank y) (rank x) ≡ b → ranks_below (rank x) (rank (cond b y x)) ≡ false
-      by true e = not_both (rank y) (rank x) e
-      by false e = not_itself (rank x)
+      by true e = not-both (rank y) (rank x) e
+      by false e = not-itself (rank x)
 
   lower-second : (x y : X) → ranks_below (rank y) (rank (lower rank x y)) ≡ false
   lower-second x y = by (ranks_below (rank y) (rank x)) refl
     where
       by : (b : Bool) → ranks_below (rank y) (rank x) ≡ b → ranks_below (rank y) (rank (cond b y x)) ≡ false
-      by true e = not_itself (rank y)
+      by true e = not-itself (rank y)
       by false e = e
 
   -- what starts it is not below the best
   first-not-below : (x : X) (xs : List X) → ranks_below (rank x) (rank (best x xs)) ≡ false
-  first-not-below x [] = not_itself (rank x)
-  first-not-below x (y ∷ ys) = not_below (rank (best (lower rank x y) ys)) (rank (lower rank x y)) (rank x) (first-not-below (lower rank x y) ys) (lower-first x y)
+  first-not-below x [] = not-itself (rank x)
+  first-not-below x (y ∷ ys) = not-below (rank (best (lower rank x y) ys)) (rank (lower rank x y)) (rank x) (first-not-below (lower rank x y) ys) (lower-first x y)
 
   -- no element is below the best
   none-below : (x : X) (xs : List X) → AllByRecursion (λ y. ranks_below (rank y) (rank (best x xs)) ≡ false) (x ∷ xs)
@@ -69,7 +66,7 @@ module _ {X : Type 0} (rank : X → List ℕ) where
     where
       rest : (x : X) (xs : List X) → AllByRecursion (λ y. ranks_below (rank y) (rank (best x xs)) ≡ false) xs
       rest x [] = tt
-      rest x (y ∷ ys) = (not_below (rank (best (lower rank x y) ys)) (rank (lower rank x y)) (rank y) (first-not-below (lower rank x y) ys) (lower-second x y), rest (lower rank x y) ys)
+      rest x (y ∷ ys) = (not-below (rank (best (lower rank x y) ys)) (rank (lower rank x y)) (rank y) (first-not-below (lower rank x y) ys) (lower-second x y), rest (lower rank x y) ys)
 
   kept-first : (x y : X) (ys : List X) (b : X) (k : ℕ) → k < length (x ∷ ys) → get_or (x ∷ ys) k b ≡ b → Contains (x ∷ y ∷ ys) b
   kept-first x y ys b zero p e = (0, omega arith, e)
@@ -100,5 +97,6 @@ module _ {X : Type 0} (rank : X → List ℕ) where
   no-least [] e = refl
   no-least (x ∷ xs) e = absurd (none-some (best x xs) (sym e))
 
+-- the least of some items is what its law says
 pub has-least : (X : Type 0) → HasLeast X
 has-least X = record { one = least-is-one; none_below = none-below-least; none = no-least }

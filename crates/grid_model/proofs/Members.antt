@@ -95,17 +95,18 @@ module _ {X Y : Type 0} (f : X → List Y) where
       by (inl g) rest = (y, contains-first y ys, g)
       by (inr g) rest = ((rest g).0, contains-later y ys (rest g).0 (rest g).1, (rest g).2)
 
--- the numbers from a on
+-- a range has the numbers from its begin to below its end
 pub contains-range : (a n i : ℕ) → a ≤ i → i < a + n → Contains (range_with_len a n) i
 contains-range a n i p q = (i - a, omega (arith, p, q, length-range_with_len a n), get_or-range_with_len a n (i - a) i (omega (arith, p, q)) ∙ omega (arith, p))
 
+-- and no others
 pub contains-from-range : (a n i : ℕ) → Contains (range_with_len a n) i → (a ≤ i) × (i < a + n)
 contains-from-range a n i h =
     let p : h.0 < n = omega (arith, h.1, length-range_with_len a n) in
     let e : a + h.0 ≡ i = sym (get_or-range_with_len a n h.0 i p) ∙ h.2 in
     (omega (arith, e), omega (arith, e, p))
 
--- a test finds exactly the numbers that a list contains
+-- a number that the test finds is in the list
 pub contains-among : (ns : List ℕ) (n : ℕ) → is_among ns n ≡ true → Contains ns n
 contains-among [] n e = absurd (true≢false (sym e))
 contains-among (m ∷ ns) n e = by (or_cases (m == n) (is_among ns n) e) (contains-among ns n)
@@ -114,6 +115,7 @@ contains-among (m ∷ ns) n e = by (or_cases (m == n) (is_among ns n) e) (contai
     by (inl s) rest = (0, omega arith, eqb-true m n s)
     by (inr g) rest = contains-later m ns n (rest g)
 
+-- and the test finds each number of the list
 pub among-from-contains : (ns : List ℕ) (n : ℕ) → Contains ns n → is_among ns n ≡ true
 among-from-contains [] n h = contains-none n h
 among-from-contains (m ∷ ns) n h = by (contains-split m ns n h) (among-from-contains ns n)

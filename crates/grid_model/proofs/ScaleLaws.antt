@@ -35,11 +35,11 @@ none-at-most l v (b ∷ bs) e p =
     let q : l ≤ b = starts l b bs e in
     ap (λ t. cond t (b ∷ filter (λ b. nat_le b v) bs) (filter (λ b. nat_le b v) bs)) (lt-leb b v (omega arith)) ∙ none-at-most (b + 1) v bs (goes-on l b bs e) (omega arith)
 
-none-below : (l v : ℕ) (bs : List ℕ) → ascends_from l bs ≡ true → v ≤ l → filter (λ b. nat_lt b v) bs ≡ []
-none-below l v [] e p = refl
-none-below l v (b ∷ bs) e p =
+none-under : (l v : ℕ) (bs : List ℕ) → ascends_from l bs ≡ true → v ≤ l → filter (λ b. nat_lt b v) bs ≡ []
+none-under l v [] e p = refl
+none-under l v (b ∷ bs) e p =
     let q : l ≤ b = starts l b bs e in
-    ap (λ t. cond t (b ∷ filter (λ b. nat_lt b v) bs) (filter (λ b. nat_lt b v) bs)) (le-ltb b v (omega arith)) ∙ none-below (b + 1) v bs (goes-on l b bs e) (omega arith)
+    ap (λ t. cond t (b ∷ filter (λ b. nat_lt b v) bs) (filter (λ b. nat_lt b v) bs)) (le-ltb b v (omega arith)) ∙ none-under (b + 1) v bs (goes-on l b bs e) (omega arith)
 
 all-above : (l v : ℕ) (bs : List ℕ) → ascends_from l bs ≡ true → v < l → filter (λ b. nat_lt v b) bs ≡ bs
 all-above l v [] e p = refl
@@ -47,10 +47,11 @@ all-above l v (b ∷ bs) e p =
     let q : l ≤ b = starts l b bs e in
     ap (λ t. cond t (b ∷ filter (λ b. nat_lt v b) bs) (filter (λ b. nat_lt v b) bs)) (lt-ltb v b (omega arith)) ∙ ap (λ bs. b ∷ bs) (all-above (b + 1) v bs (goes-on l b bs e) (omega arith))
 
--- a boundary at most the number is counted, and one above it is not
+-- a boundary at most the number is counted in its interval
 pub counted : (b v : ℕ) (bs : List ℕ) → b ≤ v → interval (b ∷ bs) v ≡ suc (interval bs v)
 counted b v bs p = ap (λ t. length (cond t (b ∷ filter (λ b. nat_le b v) bs) (filter (λ b. nat_le b v) bs))) (le-leb b v p)
 
+-- one above it is not
 pub uncounted : (b v : ℕ) (bs : List ℕ) → v < b → interval (b ∷ bs) v ≡ interval bs v
 uncounted b v bs p = ap (λ t. length (cond t (b ∷ filter (λ b. nat_le b v) bs) (filter (λ b. nat_le b v) bs))) (lt-leb b v p)
 
@@ -117,32 +118,33 @@ has-bounds scale v i e p n = (
 
 -- a new boundary below all others stands first, one that is there already changes nothing, and one above the first stands behind it
 stands-first : (l v : ℕ) (bs : List ℕ) → ascends_from l bs ≡ true → v < l → refined bs v ≡ v ∷ bs
-stands-first l v bs e p = ap (λ (xs : List ℕ). xs ++ v ∷ filter (λ b. nat_lt v b) bs) (none-below l v bs e (omega (arith, p))) ∙ ap (λ xs. v ∷ xs) (all-above l v bs e p)
+stands-first l v bs e p = ap (λ (xs : List ℕ). xs ++ v ∷ filter (λ b. nat_lt v b) bs) (none-under l v bs e (omega (arith, p))) ∙ ap (λ xs. v ∷ xs) (all-above l v bs e p)
 
-step : (v b : ℕ) (bs : List ℕ) (t u : Bool) → nat_lt b v ≡ t → nat_lt v b ≡ u
+by-tests : (v b : ℕ) (bs : List ℕ) (t u : Bool) → nat_lt b v ≡ t → nat_lt v b ≡ u
     → refined (b ∷ bs) v ≡ cond t (b ∷ filter (λ b. nat_lt b v) bs) (filter (λ b. nat_lt b v) bs) ++ v ∷ cond u (b ∷ filter (λ b. nat_lt v b) bs) (filter (λ b. nat_lt v b) bs)
-step v b bs t u p q i = cond (p i) (b ∷ filter (λ b. nat_lt b v) bs) (filter (λ b. nat_lt b v) bs) ++ v ∷ cond (q i) (b ∷ filter (λ b. nat_lt v b) bs) (filter (λ b. nat_lt v b) bs)
+by-tests v b bs t u p q i = cond (p i) (b ∷ filter (λ b. nat_lt b v) bs) (filter (λ b. nat_lt b v) bs) ++ v ∷ cond (q i) (b ∷ filter (λ b. nat_lt v b) bs) (filter (λ b. nat_lt v b) bs)
 
 stands-there : (v : ℕ) (bs : List ℕ) → ascends_from (v + 1) bs ≡ true → refined (v ∷ bs) v ≡ v ∷ bs
-stands-there v bs e = step v v bs false false (le-ltb v v (omega arith)) (le-ltb v v (omega arith)) ∙ stands-first (v + 1) v bs e (omega arith)
+stands-there v bs e = by-tests v v bs false false (le-ltb v v (omega arith)) (le-ltb v v (omega arith)) ∙ stands-first (v + 1) v bs e (omega arith)
 
 stands-later : (v b : ℕ) (bs : List ℕ) → b < v → refined (b ∷ bs) v ≡ b ∷ refined bs v
-stands-later v b bs p = step v b bs true false (lt-ltb b v p) (le-ltb v b (omega (arith, p)))
+stands-later v b bs p = by-tests v b bs true false (lt-ltb b v p) (le-ltb v b (omega (arith, p)))
 
--- what a refined scale is, by the place of the new boundary: P of the number from which a scale ascends, the scale, and the refined scale
+-- what holds of a scale and its refinement holds by the place of the new boundary: alone, known, before the first boundary, or behind it. P is said of the number from which the scale ascends, the scale, and the refined scale
 module _ (v : ℕ) (P : ℕ → List ℕ → List ℕ → Type 0)
     (alone : (l : ℕ) → P l [] (v ∷ []))
-    (there : (l : ℕ) (bs : List ℕ) → ascends_from l (v ∷ bs) ≡ true → P l (v ∷ bs) (v ∷ bs))
-    (here : (l b : ℕ) (bs : List ℕ) → ascends_from l (b ∷ bs) ≡ true → v < b → P l (b ∷ bs) (v ∷ b ∷ bs))
-    (later : (l b : ℕ) (bs rs : List ℕ) → ascends_from l (b ∷ bs) ≡ true → b < v → P (b + 1) bs rs → P l (b ∷ bs) (b ∷ rs)) where
+    (known : (l : ℕ) (bs : List ℕ) → ascends_from l (v ∷ bs) ≡ true → P l (v ∷ bs) (v ∷ bs))
+    (before : (l b : ℕ) (bs : List ℕ) → ascends_from l (b ∷ bs) ≡ true → v < b → P l (b ∷ bs) (v ∷ b ∷ bs))
+    (behind : (l b : ℕ) (bs rs : List ℕ) → ascends_from l (b ∷ bs) ≡ true → b < v → P (b + 1) bs rs → P l (b ∷ bs) (b ∷ rs)) where
+  -- by the place of the new boundary
   pub by-place : (l : ℕ) (bs : List ℕ) → ascends_from l bs ≡ true → P l bs (refined bs v)
   by-place l [] e = alone l
   by-place l (b ∷ bs) e = by (cases_order v b) (by-place (b + 1) bs (goes-on l b bs e))
     where
       by : (v ≡ b) ⊎ ((v < b) ⊎ (b < v)) → P (b + 1) bs (refined bs v) → P l (b ∷ bs) (refined (b ∷ bs) v)
-      by (inl p) rest = subst (λ (b : ℕ). ascends_from l (b ∷ bs) ≡ true → P l (b ∷ bs) (refined (b ∷ bs) v)) p (λ e. subst (P l (v ∷ bs)) (sym (stands-there v bs (goes-on l v bs e))) (there l bs e)) e
-      by (inr (inl p)) rest = subst (P l (b ∷ bs)) (sym (stands-first b v (b ∷ bs) (ascending b b bs (omega arith) (tops l b bs e) (goes-on l b bs e)) p)) (here l b bs e p)
-      by (inr (inr p)) rest = subst (P l (b ∷ bs)) (sym (stands-later v b bs p)) (later l b bs (refined bs v) e p rest)
+      by (inl p) rest = subst (λ (b : ℕ). ascends_from l (b ∷ bs) ≡ true → P l (b ∷ bs) (refined (b ∷ bs) v)) p (λ e. subst (P l (v ∷ bs)) (sym (stands-there v bs (goes-on l v bs e))) (known l bs e)) e
+      by (inr (inl p)) rest = subst (P l (b ∷ bs)) (sym (stands-first b v (b ∷ bs) (ascending b b bs (omega arith) (tops l b bs e) (goes-on l b bs e)) p)) (before l b bs e p)
+      by (inr (inr p)) rest = subst (P l (b ∷ bs)) (sym (stands-later v b bs p)) (behind l b bs (refined bs v) e p rest)
 
 -- a scale with a new boundary is a scale
 pub refined-ascends : (v l : ℕ) (bs : List ℕ) → v ≤ top → ascends_from l bs ≡ true → l ≤ v → ascends_from l (refined bs v) ≡ true
@@ -225,11 +227,13 @@ highs-stay v x = by-place v (λ l bs rs. is_among (highs bs) x ≡ true → is_a
 pub lows-stay : (v x l : ℕ) (bs : List ℕ) → ascends_from l bs ≡ true → is_among (lows bs) x ≡ true → is_among (lows (refined bs v)) x ≡ true
 lows-stay v x l bs a e = or-onward (0 == x) (is_among bs x) (is_among (refined bs v) x) (λ h. refined-has v x l bs a ∙ or_left (is_among bs x) (v == x) h) e
 
-drawn-stays : (scale : List ℕ) (v lo hi : ℕ) → IsTrue (is_scale scale) → IsTrue (is_drawn scale lo hi) → IsTrue (is_drawn (refined scale v) lo hi)
+-- bounds that are ends of intervals are ends still
+pub drawn-stays : (scale : List ℕ) (v lo hi : ℕ) → IsTrue (is_scale scale) → IsTrue (is_drawn scale lo hi) → IsTrue (is_drawn (refined scale v) lo hi)
 drawn-stays scale v lo hi e h = both (is_among (lows (refined scale v)) lo) (is_among (highs (refined scale v)) hi)
     (lows-stay v lo 1 scale e (first (is_among (lows scale) lo) (is_among (highs scale) hi) h))
     (highs-stay v hi 1 scale e (second (is_among (lows scale) lo) (is_among (highs scale) hi) h))
 
+-- a scale parts the numbers into intervals
 pub parts-numbers : PartsNumbers
 parts-numbers = record {
   bounds = has-bounds;
