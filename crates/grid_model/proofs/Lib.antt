@@ -3,6 +3,13 @@ pub mod AnswerLaws
 pub mod Listed
 pub mod Found
 pub mod Counts
+pub mod LeastLaws
+pub mod Members
+pub mod Choosing
+pub mod CutLaws
+pub mod ScaleLaws
+pub mod Places
+pub mod CellLaws
 pub mod Refining
 pub mod Numbered
 pub mod Boxes
@@ -25,6 +32,7 @@ pub mod Swapping
 pub mod States
 pub mod Prepending
 pub mod Telling
+pub mod Together
 pub mod Reading
 pub mod Printing
 mod TwoClients

@@ -5,6 +5,7 @@ pub mod Scales
 pub mod Cells
 pub mod Layouts
 pub mod Cuts
+pub mod Candidates
 pub mod Neighbours
 pub mod Notes
 pub mod Lone

@@ -1,12 +1,20 @@
 //! What the grid file means: definitions in `specs/`, and their laws as the contracts of functions without code.
 #![tactic(auto)]
 
+mod cuts;
 mod layouts;
+mod lone;
 mod merging;
+mod scales;
 mod scripts;
 mod tables;
+#[cfg(test)]
+mod tests;
 
-pub use layouts::{region_law, unused_law};
+pub use cuts::{Candidate, best, cut_law, least_law};
+pub use layouts::{layout_law, region_law, unused_law};
+pub use lone::lone_law;
 pub use merging::merge_law;
+pub use scales::{cell_law, scale_law};
 pub use scripts::{script_law, text_law};
 pub use tables::{listing_law, state_law, table_law};
