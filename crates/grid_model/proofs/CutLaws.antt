@@ -1,5 +1,5 @@
 -- A cut is the best candidate, else the best value of the first attribute that has one.
-use Rattle.std.proofs.Common.{◌≡◌, ◌<◌, ◌≤◌, ◌+◌, ◌-◌, ◌%◌, ◌⊎◌, inl, inr, ℕ, Bool, true, false, cond, ◌&&◌, List, length, slice_index, map, Contains, Some, None, option_map, refl, sym, ap, ◌∙◌, subst, arith, true≢false}
+use Rattle.std.proofs.Common.{◌≡◌, ◌<◌, ◌≤◌, ◌+◌, ◌-◌, ◌%◌, ◌⊎◌, inl, inr, ℕ, Bool, true, false, cond, ◌&&◌, List, length, slice_index, map, Contains, Option, Some, None, option_map, refl, sym, ap, ◌∙◌, subst, arith, true≢false}
 use Rattle.std.proofs.Math.Nat.{mod-eq_of_lt, add-mod_right, mod-add-mod}
 use Rattle.std.proofs.lemmas.Bool.{cases_lt}
 use Rattle.std.proofs.lemmas.Nat.{mod_below}
@@ -197,8 +197,22 @@ module _ {K : ℕ} (shape : Shape) (scales : List (List ℕ)) (b : Box K) (keys 
 
 -- a cut is the best that there is
 pub cuts-best : (K : ℕ) → CutsBest K
-cuts-best K = record {
-  old = λ shape scales b keys c e old. old-cut-best shape scales b keys c old (cut-comes shape scales b keys c e);
-  new = λ shape scales b keys c e fresh. new-cut-best shape scales b keys c fresh (cut-comes shape scales b keys c e);
-  none = no-cut;
-}
+cuts-best K = record { old = old; new = new; none = λ shape scales b keys. (no-cut shape scales b keys, never shape scales b keys) }
+  where
+    old : (shape : Shape) (scales : List (List ℕ)) (b : Box K) (keys : List (List ℕ)) (c : Cut) → cut shape scales b keys ≡ Some c → c.fresh ≡ false → IsBestOld scales b keys c
+    old shape scales b keys c e h = old-cut-best shape scales b keys c h (cut-comes shape scales b keys c e)
+
+    new : (shape : Shape) (scales : List (List ℕ)) (b : Box K) (keys : List (List ℕ)) (c : Cut) → cut shape scales b keys ≡ Some c → c.fresh ≡ true → IsBestNew shape scales b keys c
+    new shape scales b keys c e h = new-cut-best shape scales b keys c h (cut-comes shape scales b keys c e)
+
+    -- a cut is at a candidate or at a value
+    never : (shape : Shape) (scales : List (List ℕ)) (b : Box K) (keys : List (List ℕ)) → ((a v : ℕ) → (IsCandidate scales b keys a v → ⊥) × (IsValue shape scales keys a v → ⊥)) → cut shape scales b keys ≡ None
+    never shape scales b keys h = by (cut shape scales b keys) refl
+      where
+        of-cut : (c : Cut) (t : Bool) → c.fresh ≡ t → cut shape scales b keys ≡ Some c → ⊥
+        of-cut c true f e = (h c.attribute c.value).1 (new shape scales b keys c e f).value
+        of-cut c false f e = (h c.attribute c.value).0 (old shape scales b keys c e f).candidate
+
+        by : (o : Option Cut) → cut shape scales b keys ≡ o → o ≡ None
+        by None e = refl
+        by (Some c) e = absurd (of-cut c c.fresh refl e)

@@ -1,5 +1,5 @@
 -- What the definitions of the least and of cuts promise.
-use Rattle.std.specs.Prelude.{◌≡◌, ◌<◌, ℕ, List, [], true, false, map, slice_index, length, Some, None, Contains, IsTrue}
+use Rattle.std.specs.Prelude.{◌≡◌, ◌↔◌, ◌<◌, ℕ, List, [], true, false, map, slice_index, length, Some, None, Contains, IsTrue}
 use Rattle.grid_types.specs.declared.shape.Shape.{Shape}
 use Rattle.grid_types.specs.declared.note.Cut.{Cut}
 use Rattle.grid_model.specs.Lists.{least, ranks_below, is_among}
@@ -44,4 +44,5 @@ pub record IsBestNew {K : ℕ} (shape : Shape) (scales : List (List ℕ)) (b : B
 pub record CutsBest (K : ℕ) : Type 0 where
   pub old : (shape : Shape) (scales : List (List ℕ)) (b : Box K) (keys : List (List ℕ)) (c : Cut) → cut shape scales b keys ≡ Some c → c.fresh ≡ false → IsBestOld scales b keys c
   pub new : (shape : Shape) (scales : List (List ℕ)) (b : Box K) (keys : List (List ℕ)) (c : Cut) → cut shape scales b keys ≡ Some c → c.fresh ≡ true → IsBestNew shape scales b keys c
-  pub none : (shape : Shape) (scales : List (List ℕ)) (b : Box K) (keys : List (List ℕ)) → cut shape scales b keys ≡ None → (a v : ℕ) → (IsCandidate scales b keys a v → ⊥) × (IsValue shape scales keys a v → ⊥)
+  pub none : (shape : Shape) (scales : List (List ℕ)) (b : Box K) (keys : List (List ℕ))
+      → (cut shape scales b keys ≡ None) ↔ ((a v : ℕ) → (IsCandidate scales b keys a v → ⊥) × (IsValue shape scales keys a v → ⊥))

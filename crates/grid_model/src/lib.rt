@@ -8,8 +8,6 @@ mod merging;
 mod scales;
 mod scripts;
 mod tables;
-#[cfg(test)]
-mod tests;
 
 pub use cuts::{Candidate, best, cut_law, least_law};
 pub use layouts::{layout_law, region_law, unused_law};
