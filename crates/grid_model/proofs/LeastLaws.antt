@@ -1,5 +1,5 @@
 -- The least of a list.
-use Rattle.std.proofs.Common.{◌≡◌, ◌<◌, ℕ, zero, suc, Bool, true, false, cond, List, [], ◌∷◌, length, get_or, refl, sym, ap, subst, ◌∙◌, true≢false, Some, None, fold, Contains, arith}
+use Rattle.std.proofs.Common.{◌≡◌, ◌<◌, ℕ, zero, suc, Bool, true, false, cond, List, [], ◌∷◌, length, get_or, refl, sym, ap, subst, ◌∙◌, true≢false, Some, None, fold, Contains, IsTrue, slice_get, arith}
 use Rattle.std.specs.List.{AllByRecursion}
 use Rattle.std.specs.Ordering.{nat_cmp, is_lt, ordering_reverse}
 use Rattle.std.specs.declared.cmp.Ordering.{Ordering}
@@ -9,7 +9,7 @@ use Rattle.std.specs.Cmp.Lexicographic.{slice_cmp, nat_list_cmp_total}
 use Rattle.std.proofs.lemmas.List.Elements.{All-contains, All-from_recursion}
 use Rattle.std.proofs.lemmas.Bool.{false_from_ne_true}
 use Rattle.std.proofs.lemmas.Option.{none-some, same_Some}
-use Rattle.grid_model.specs.CutLaws.{HasLeast}
+use Rattle.grid_model.specs.CutLaws.{HasLeast, IsFirstAt}
 use Rattle.grid_model.specs.Lists.{ranks_below, lower, least}
 
 abbrev compare : List ℕ → List ℕ → Ordering
@@ -35,6 +35,18 @@ not-below x m y mx ym =
     by Less e l = nat_list_cmp_total.trans m y x e l
     by Equal e l = nat_list_cmp_total.congr m y x e ∙ l
     by Greater e l = absurd (true≢false (sym (ap is_lt (nat_list_cmp_total.antisymm y m ∙ ap ordering_reverse e)) ∙ ym))
+
+-- what is below a rank is below the ranks above that one
+below-more : (x y z : List ℕ) → ranks_below x y ≡ true → ranks_below y z ≡ true → ranks_below x z ≡ true
+below-more x y z e f = ap is_lt (nat_list_cmp_total.trans x y z (less-order (compare x y) e) (less-order (compare y z) f))
+
+-- and below those that are not below it
+below-others : (x y z : List ℕ) → ranks_below x y ≡ true → ranks_below z y ≡ false → ranks_below x z ≡ true
+below-others x y z e f = by (ranks_below x z) refl
+  where
+    by : (t : Bool) → ranks_below x z ≡ t → t ≡ true
+    by true g = refl
+    by false g = absurd (true≢false (sym e ∙ not-below y z x f g))
 
 module _ {X : Type 0} (rank : X → List ℕ) where
   abbrev best : X → List X → X
@@ -81,6 +93,47 @@ module _ {X : Type 0} (rank : X → List ℕ) where
       by true h g = (suc g.0, omega (arith, g.1), g.2)
       by false h g = kept-first x y ys (best x ys) h.0 h.1 h.2
 
+  -- the best of an item and others is that item, or the first of those that rank as it does, and lower than the item
+  data Comes (x : X) (xs : List X) (b : X) : Type 0 where
+    Kept : x ≡ b → Comes x xs b
+    Later : ranks_below (rank b) (rank x) ≡ true → IsFirstAt rank xs b → Comes x xs b
+
+  -- one item more in front, which ranks above
+  one-more : (y : X) (ys : List X) (b : X) → ranks_below (rank b) (rank y) ≡ true → IsFirstAt rank ys b → IsFirstAt rank (y ∷ ys) b
+  one-more y ys b e h = record { index = suc h.index; there = h.there; before = before }
+    where
+      before : (i : ℕ) (z : X) → i < suc h.index → slice_get (y ∷ ys) i ≡ Some z → IsTrue (ranks_below (rank b) (rank z))
+      before zero z l q = subst (λ (m : X). ranks_below (rank b) (rank m) ≡ true) (same_Some y z q) e
+      before (suc i) z l q = h.before i z (omega (arith, l)) q
+
+  here : (y : X) (ys : List X) (b : X) → y ≡ b → IsFirstAt rank (y ∷ ys) b
+  here y ys b e = record { index = 0; there = ap Some e; before = λ i z l q. absurd (omega (arith, l)) }
+
+  comes : (x : X) (xs : List X) → Comes x xs (best x xs)
+  comes x [] = Kept refl
+  comes x (y ∷ ys) = by (ranks_below (rank y) (rank x)) refl (comes x ys) (comes y ys)
+    where
+      of-x : ranks_below (rank y) (rank x) ≡ false → Comes x ys (best x ys) → Comes x (y ∷ ys) (best x ys)
+      of-x e (Kept same) = Kept same
+      of-x e (Later lower h) = Later lower (one-more y ys (best x ys) (below-others (rank (best x ys)) (rank x) (rank y) lower e) h)
+
+      of-y : ranks_below (rank y) (rank x) ≡ true → Comes y ys (best y ys) → Comes x (y ∷ ys) (best y ys)
+      of-y e (Kept same) = Later (subst (λ (m : X). ranks_below (rank m) (rank x) ≡ true) same e) (here y ys (best y ys) same)
+      of-y e (Later lower h) = Later (below-more (rank (best y ys)) (rank y) (rank x) lower e) (one-more y ys (best y ys) lower h)
+
+      by : (t : Bool) → ranks_below (rank y) (rank x) ≡ t → Comes x ys (best x ys) → Comes y ys (best y ys) → Comes x (y ∷ ys) (best (cond t y x) ys)
+      by true e h g = of-y e g
+      by false e h g = of-x e h
+
+  -- the least of a list is the first of its rank
+  pub least-is-first : (xs : List X) (x : X) → least rank xs ≡ Some x → IsFirstAt rank xs x
+  least-is-first [] x e = absurd (none-some x e)
+  least-is-first (y ∷ ys) x e = subst (IsFirstAt rank (y ∷ ys)) (same_Some (best y ys) x e) (first-of (comes y ys))
+    where
+      first-of : Comes y ys (best y ys) → IsFirstAt rank (y ∷ ys) (best y ys)
+      first-of (Kept same) = here y ys (best y ys) same
+      first-of (Later lower h) = one-more y ys (best y ys) lower h
+
   -- the least of a list is one of its items
   pub least-is-one : (xs : List X) (x : X) → least rank xs ≡ Some x → Contains xs x
   least-is-one [] x e = absurd (none-some x e)
@@ -99,4 +152,4 @@ module _ {X : Type 0} (rank : X → List ℕ) where
 
 -- the least of some items is what its law says
 pub has-least : (X : Type 0) → HasLeast X
-has-least X = record { one = least-is-one; none_below = none-below-least; none = no-least }
+has-least X = record { one = least-is-one; none_below = none-below-least; first = least-is-first; none = no-least }

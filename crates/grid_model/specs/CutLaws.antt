@@ -1,5 +1,5 @@
 -- What the definitions of the least and of cuts promise.
-use Rattle.std.specs.Prelude.{◌≡◌, ◌↔◌, ◌<◌, ℕ, List, [], true, false, map, slice_index, length, Some, None, Contains, IsTrue}
+use Rattle.std.specs.Prelude.{◌≡◌, ◌↔◌, ◌<◌, ℕ, List, [], true, false, map, slice_index, slice_get, length, Some, None, Contains, IsTrue}
 use Rattle.grid_types.specs.declared.shape.Shape.{Shape}
 use Rattle.grid_types.specs.declared.note.Cut.{Cut}
 use Rattle.grid_model.specs.Lists.{least, ranks_below, is_among}
@@ -7,10 +7,17 @@ use Rattle.grid_model.specs.Scales.{scale_of}
 use Rattle.grid_model.specs.Layouts.{Box}
 use Rattle.grid_model.specs.Cuts.{cut, is_within, divides, may_grow, rank, cycle}
 
--- the least of some items is one of them, none of them ranks below it, and there is none only where there are no items
+-- an item stands at an index, and each one in front of it ranks above it
+pub record IsFirstAt {X : Type 0} (rank : X → List ℕ) (xs : List X) (x : X) : Type 0 where
+  pub index : ℕ
+  pub there : slice_get xs index ≡ Some x
+  pub before : (i : ℕ) (y : X) → i < index → slice_get xs i ≡ Some y → IsTrue (ranks_below (rank x) (rank y))
+
+-- the least of some items is one of them, none of them ranks below it, it is the first of its rank, and there is none only where there are no items
 pub record HasLeast (X : Type 0) : Type 0 where
   pub one : (rank : X → List ℕ) (xs : List X) (x : X) → least rank xs ≡ Some x → Contains xs x
   pub none_below : (rank : X → List ℕ) (xs : List X) (x y : X) → least rank xs ≡ Some x → Contains xs y → ranks_below (rank y) (rank x) ≡ false
+  pub first : (rank : X → List ℕ) (xs : List X) (x : X) → least rank xs ≡ Some x → IsFirstAt rank xs x
   pub none : (rank : X → List ℕ) (xs : List X) → least rank xs ≡ None → xs ≡ []
 
 -- a candidate: an existing boundary of an attribute that lies within the box's region and divides the keys
