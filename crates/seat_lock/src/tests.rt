@@ -1,4 +1,4 @@
-ghost use Rattle.std.specs.Prelude.{◌≡◌, ◌<◌, ◌≤◌, All};
+ghost use Rattle.std.specs.Prelude.{◌<◌, ◌≤◌, All, IfSome};
 ghost use Rattle.seat_lock.specs.Chairs.{IsSeated};
 
 use crate::counter::{Ask, Counter, PLACES};
@@ -38,8 +38,60 @@ fn add_each<R: Threads + Wait + Sync>(
     );
 }
 
-// The chair learns from a note of each of the others, and takes their places back.
+fn add_all<R: Threads + Wait + Sync>(
+    rt: &R,
+    lock: &SeatLock<Counter>,
+    chairs: &mut Vec<Chair<u32, u64>>,
+    times: u32,
+)
+    requires { All (IsSeated lock.now.table.shared.table_id) chairs.old.items }
+    ensures { All (IsSeated lock.now.table.shared.table_id) chairs.new.items }
+{
+    add_each(rt, lock, chairs.as_mut_slice(), times)
+}
+
+// So many new chairs. None where there is no memory, or no place for them.
+fn split_all<R: Wait>(
+    rt: &R,
+    lock: &SeatLock<Counter>,
+    alloc: Global,
+    chair: &mut Chair<u32, u64>,
+    count: u32,
+) -> Option<Vec<Chair<u32, u64>>>
+    requires { IsSeated lock.now.table.shared.table_id chair.old }
+    ensures chair { IsSeated lock.now.table.shared.table_id chair.new }
+    ensures others { IfSome result (λ others. All (IsSeated lock.now.table.shared.table_id) others.items) }
+{
+    let mut others = Vec::new(alloc);
+    for _ in 0..count {
+        let Ok(other) = lock.split(rt, chair) else {
+            return None;
+        };
+        let Ok(()) = others.push(other) else {
+            return None;
+        };
+    }
+    Some(others)
+}
+
+// The chair learns from a note of the other, and takes its place back.
 fn gather<R: Wait>(
+    rt: &R,
+    lock: &SeatLock<Counter>,
+    chair: &mut Chair<u32, u64>,
+    other: Chair<u32, u64>,
+)
+    requires chair { IsSeated lock.now.table.shared.table_id chair.old }
+    requires other { IsSeated lock.now.table.shared.table_id other }
+    ensures { IsSeated lock.now.table.shared.table_id chair.new }
+{
+    let mut other = other;
+    let note = lock.note(&mut other);
+    lock.learn(chair, note);
+    lock.join(rt, chair, other);
+}
+
+fn gather_all<R: Wait>(
     rt: &R,
     lock: &SeatLock<Counter>,
     chair: &mut Chair<u32, u64>,
@@ -51,36 +103,28 @@ fn gather<R: Wait>(
 {
     let mut others = others;
     for _ in 0..others.len() {
-        let Some(mut other) = others.pop() else {
+        let Some(other) = others.pop() else {
             break;
         };
-        let note = lock.note(&mut other);
-        lock.learn(chair, note);
-        lock.join(rt, chair, other);
+        gather(rt, lock, chair, other);
     }
 }
 
 // So many seats add a thousand each, and one of them has the sum at the end.
-fn sum_of<R: Threads + Wait + Sync>(rt: &R, alloc: Global, seats: u32) -> Option<u64> {
+fn sum_of<R: Threads + Wait + Sync>(rt: &R, alloc: Global, seats: u32) -> Option<u64>
+    requires { 0 < seats }
+{
     let Ok((lock, mut chair)) = SeatLock::open(alloc, Counter::new(1_000_000), PLACES) else {
         return None;
     };
-    let mut others = Vec::new(alloc);
-    for _ in 1..seats {
-        let Ok(other) = lock.split(rt, &mut chair) else {
-            return None;
-        };
-        if others.push(other).is_err() {
-            return None;
-        }
-    }
-    add_each(rt, &lock, others.as_mut_slice(), 500);
+    let mut others = split_all(rt, &lock, alloc, &mut chair, seats - 1)?;
+    add_all(rt, &lock, &mut others, 500);
     add_many(rt, &lock, &mut chair, 500);
     let note = lock.note(&mut chair);
     lock.learn(&mut chair, note);
-    add_each(rt, &lock, others.as_mut_slice(), 500);
+    add_all(rt, &lock, &mut others, 500);
     add_many(rt, &lock, &mut chair, 500);
-    gather(rt, &lock, &mut chair, others);
+    gather_all(rt, &lock, &mut chair, others);
     match lock.close(rt, chair) {
         Ok(counter) => Some(counter.count),
         Err(_) => None,
