@@ -1,13 +1,12 @@
 -- What is known of a value that is taken out for good.
-use Rattle.std.proofs.Common.{◌≡◌, ℕ, zero, suc, ◌+◌, ◌<◌, ◌≤◌, ◌≢◌, List, [], ◌∷◌, length, sym, refl, ap, ◌∙◌, subst, arith, Option, Some, None}
+use Rattle.std.proofs.Common.{◌≡◌, ℕ, zero, suc, ◌<◌, ◌≤◌, ◌≢◌, List, [], ◌∷◌, sym, refl, ap, ◌∙◌, subst, arith, Option, Some, None}
 use mathlib.Core.Logic.{dite}
 use native.Mathlib.Decide.{ℕ_discrete}
 use Rattle.atomic_table.specs.Table.{Me}
 use Rattle.seat_lock.specs.declared.view.View.{View}
-use Rattle.seat_lock.specs.Parts.{Has, Begins, weight, how_many}
+use Rattle.seat_lock.specs.Parts.{weight, how_many}
 use Rattle.seat_lock.specs.Told.{Taken}
-use Rattle.seat_lock.specs.Outcomes.{Closed, StillShared}
-use Rattle.seat_lock.specs.Views.{resting}
+use Rattle.seat_lock.specs.Outcomes.{Closed}
 use Rattle.seat_lock.proofs.Lists.{inside, one_value}
 
 module _ {P : Type 0} where
@@ -58,15 +57,3 @@ module _ {C E P : Type 0} (part_at : C → ℕ → Option P) (onward : P → P �
         onto = l.2;
         alone = λ q i ne. alone (part_at t.core) (places t.core) place q l.0 one (subst (λ (n : ℕ). place < n) h.fits.1 (inside h.parts place (Some x) has)) l.1 i ne;
       }) few
-
-  -- where more places are, the seat has seen the history, and is otherwise as it was
-  pub refuses : (m w y : M) (out : ℕ) → m.1 ≡ [] → Taken part_at onward places safe m w → ((core : C) → w.1 ≡ (0, Some core) ∷ [] → out ≡ how_many (part_at core) (places core)) → y ≡ (resting w.0 w.0.seat, []) → StillShared part_at onward places safe m.0 y.0 out
-  refuses m w y out none t count is = let h = t.holds in record {
-    core = t.core;
-    history = h.history;
-    parts = h.parts;
-    fits = h.fits;
-    begins = h.begins;
-    counted = count t.core (t.carried ∙ ap (λ (l : List (ℕ × Option C)). (0, Some t.core) ∷ l) none);
-    view = ap (λ (z : M). z.0) is ∙ (λ i. resting (h.view i) (h.view i).seat);
-  }

@@ -1,11 +1,10 @@
 -- What a fork of the value leaves, by the laws of its trait.
-use Rattle.std.proofs.Common.{◌≡◌, ℕ, ◌<◌, ◌≢◌, ◌⊎◌, List, [], ◌∷◌, ◌++◌, length, set, sym, refl, ap, ◌∙◌, subst, ⊎_elim, Option, Some, None, Result, Ok, Err, IfOk, IfErr, length-set}
+use Rattle.std.proofs.Common.{◌≡◌, ℕ, ◌<◌, ◌≢◌, List, length, set, sym, ap, ◌∙◌, subst, ⊎_elim, Option, Some, None, Result, Ok, Err, IfOk, IfErr, length-set}
 use Rattle.std.proofs.lemmas.Option.{same_Some, none-some}
 use Rattle.atomic_table.specs.Table.{Me}
 use Rattle.atomic_table.proofs.Lists.{at_set, set_else}
 use Rattle.seat_lock.specs.declared.view.View.{View}
 use Rattle.seat_lock.specs.Parts.{Has, Begins, Keeps, Forked}
-use Rattle.seat_lock.specs.Rule.{Fits}
 use Rattle.seat_lock.specs.Told.{Taken}
 use Rattle.seat_lock.specs.Turns.{Out, Over}
 use Rattle.seat_lock.specs.Outcomes.{ForkAnswered, SplitOff}
@@ -37,10 +36,6 @@ module _ {C E P R : Type 0} (part_at : C → ℕ → Option P) (onward : P → P
 
   abbrev Off : View E P → View E P → View E P → ℕ → ℕ → Type 0
   Off = SplitOff part_at onward places safe forks
-
-  -- what the value's own fork is owed
-  pub may_fork : (core : C) (w : View E P) (place : ℕ) → IsOut core w place → (from : ℕ) × (history : List E) × (parts : List (Option P)) × (part : P) × safe core from history parts × (part_at core place ≡ Some part)
-  may_fork core w place o = let l = o.fits.2 place o.part o.has in (w.from, w.seen, o.parts, l.0, o.fits.0, l.1)
 
   refused : (core t : C) (w : View E P) (place : ℕ) (reply : R) (o : IsOut core w place) → forks core place t (Err reply) → Keeps part_at onward places safe place w.from core t w.seen o.parts
   refused core t w place reply o did = let l = o.fits.2 place o.part o.has in refusal_keeps core t place w.from w.seen o.parts o.part l.0 reply o.fits.0 o.has l.1 l.2 did

@@ -1,13 +1,12 @@
 -- What a join of the value leaves, by the laws of its trait.
-use Rattle.std.proofs.Common.{◌≡◌, ℕ, ◌≢◌, ◌⊎◌, List, [], ◌∷◌, length, set, sym, refl, ap, ◌∙◌, subst, ⊎_elim, Option, Some, None, length-set}
+use Rattle.std.proofs.Common.{◌≡◌, ℕ, ◌≢◌, List, [], ◌∷◌, set, sym, refl, ap, ◌∙◌, subst, ⊎_elim, Option, Some, None, length-set}
 use Rattle.std.proofs.lemmas.Option.{same_Some, none-some}
 use Rattle.atomic_table.specs.Table.{Me}
 use Rattle.atomic_table.proofs.Lists.{at_set, set_else}
 use Rattle.seat_lock.specs.declared.view.View.{View}
-use Rattle.seat_lock.specs.Parts.{Has, Begins, Joined}
-use Rattle.seat_lock.specs.Rule.{Fits}
+use Rattle.seat_lock.specs.Parts.{Has, Joined}
 use Rattle.seat_lock.specs.Told.{Holds, Taken}
-use Rattle.seat_lock.specs.Turns.{Carries, Out, Over, Hosts}
+use Rattle.seat_lock.specs.Turns.{Carries, Over, Hosts}
 use Rattle.seat_lock.specs.Outcomes.{Rejoined, TakenBack}
 use Rattle.seat_lock.specs.Views.{seated, vacated, taking, taken_in, freed, resting}
 
@@ -18,19 +17,6 @@ module _ {C E P : Type 0} (part_at : C → ℕ → Option P) (onward : P → P �
     → Joined part_at onward places safe seat other from s t history parts) where
   abbrev Host : C → View E P → ℕ → ℕ → Type 0
   Host = Hosts part_at onward places safe idle
-
-  -- what the value's own join is owed
-  pub may_join : (core : C) (w : View E P) (place other : ℕ) (h : Host core w place other)
-      → (place ≢ other) × ((x : P) × (part_at core place ≡ Some x)) × ((y : P) × (part_at core other ≡ Some y) × idle y)
-  may_join core w place other h = let l = h.out.fits.2 place h.out.part h.out.has in let g = h.out.fits.2 other h.guest_part h.guest_has in
-      (h.apart, (l.0, l.1), (g.0, g.1, idle_stays h.guest_part g.0 g.2 h.rests))
-
-  pub is_safe : (core : C) (w : View E P) (place other : ℕ) → Host core w place other → (from : ℕ) × (history : List E) × (parts : List (Option P)) × safe core from history parts
-  is_safe core w place other h = (w.from, w.seen, h.out.parts, h.out.fits.0)
-
-  -- the guest has a place, which the notes have
-  pub may_release : (core : C) (w : View E P) (place other : ℕ) → Host core w place other → (parts : List (Option P)) × (q : ℕ) × (y : P) × (w.notes ≡ Some parts) × (w.guest ≡ Some (q, y))
-  may_release core w place other h = (h.out.parts, other, h.guest_part, h.out.notes, h.guest)
 
   kept : (core t : C) (w : View E P) (place other : ℕ) (h : Host core w place other) → joins core place other t → Joined part_at onward places safe place other w.from core t w.seen h.out.parts
   kept core t w place other h did = let l = h.out.fits.2 place h.out.part h.out.has in let g = h.out.fits.2 other h.guest_part h.guest_has in

@@ -1,5 +1,5 @@
 -- What taking the turn gives, and what one step of the value leaves, by the laws of its trait.
-use Rattle.std.proofs.Common.{◌≡◌, ℕ, ◌+◌, ◌<◌, ◌≤◌, ◌≢◌, ◌⊎◌, true, Bool, List, [], ◌∷◌, ◌++◌, length, set, sym, refl, ap, ◌∙◌, subst, ⊎_elim, arith, Option, Some, None, length-append, length-set}
+use Rattle.std.proofs.Common.{◌≡◌, ℕ, ◌+◌, ◌≢◌, true, Bool, List, [], ◌∷◌, ◌++◌, length, set, sym, refl, ap, ◌∙◌, subst, ⊎_elim, arith, Option, Some, length-append, length-set}
 use Rattle.std.proofs.lemmas.Option.{same_Some}
 use Rattle.atomic_table.specs.Table.{Me}
 use Rattle.atomic_table.proofs.Lists.{at_set}
@@ -7,7 +7,7 @@ use Rattle.seat_lock.specs.declared.view.View.{View}
 use Rattle.seat_lock.specs.Parts.{Has, Begins, Keeps}
 use Rattle.seat_lock.specs.Rule.{Fits}
 use Rattle.seat_lock.specs.Told.{Holds, Taken}
-use Rattle.seat_lock.specs.Turns.{Carries, Held, Out, Over, Ready}
+use Rattle.seat_lock.specs.Turns.{Carries, Out, Over, Ready}
 use Rattle.seat_lock.specs.Outcomes.{Acted}
 use Rattle.seat_lock.specs.Views.{seated, taking, extended, resting, waiting}
 use Rattle.seat_lock.proofs.Lists.{begins_self, begins_trans, one_value}
@@ -41,16 +41,6 @@ module _ {C E P : Type 0} (part_at : C → ℕ → Option P) (onward : P → P �
   taken_from m u w seen none is begins t = let t' : TakenTo (waiting m.0 seen, []) w = subst (λ (z : M). TakenTo z w) is t in
       record { core = t'.core; holds = holds_from t'.core m.0 w.0 seen begins t'.holds; carried = t'.carried ∙ ap (λ (l : List (ℕ × Option C)). (0, Some t'.core) ∷ l) (sym none) }
 
-  -- what a seat has taken may go home
-  pub held_of : (m w z : M) → m.1 ≡ [] → TakenTo m w → z ≡ w → Carries z (λ core. Held part_at onward places safe core z.0)
-  held_of m w z none t is = subst (λ (y : M). Carries y (λ core. Held part_at onward places safe core y.0)) (sym is)
-      (t.core, t.carried ∙ ap (λ (l : List (ℕ × Option C)). (0, Some t.core) ∷ l) none, subst (Held part_at onward places safe t.core) (sym t.holds.view) record { parts = t.holds.parts; notes = refl; fits = t.holds.fits })
-
-  -- a seat that gave back what it had taken waits, and has seen as much of the history or more
-  pub waits : (m u w y z : M) (seen : List E) → u ≡ (waiting m.0 seen, []) → Begins m.0.seen seen → TakenTo u w → y ≡ w → z ≡ (resting y.0 y.0.seat, []) → (seen' : List E) × (z ≡ (waiting m.0 seen', [])) × Begins m.0.seen seen'
-  waits m u w y z seen is begins t same end = let h : Holds part_at onward places safe t.core (waiting m.0 seen) w.0 = subst (λ (q : M). Holds part_at onward places safe t.core q.0 w.0) is t.holds in
-      (h.history, end ∙ (λ i. (resting ((ap (λ (q : M). q.0) same ∙ h.view) i) ((ap (λ (q : M). q.0) same ∙ h.view) i).seat, [])), begins_trans m.0.seen seen h.history begins h.begins)
-
   -- the seat of a place that has taken the value has it out
   pub out_of : (m w : M) (place : ℕ) (x : P) → m.1 ≡ [] → m.0.seat ≡ Some (place, x) → TakenTo m w → Carries w (λ core. Out part_at onward places safe core w.0 place)
   out_of m w place x none seat t = let h = t.holds in
@@ -66,12 +56,6 @@ module _ {C E P Ev R : Type 0} (part_at : C → ℕ → Option P) (onward : P �
     (front_counts : (s : C) (from : ℕ) (history : List E) (parts : List (Option P)) → safe s from history parts → front_is s ≡ from + length history) where
   abbrev IsReady : C → View E P → ℕ → Ev → Type 0
   IsReady = Ready part_at onward places safe allowed is_enabled
-
-  -- what the value's own step is owed
-  pub may_step : (core : C) (w : View E P) (place : ℕ) (event : Ev) → IsReady core w place event
-      → (from : ℕ) × (history : List E) × (parts : List (Option P)) × (part : P) × safe core from history parts × (part_at core place ≡ Some part) × allowed part history event
-  may_step core w place event r = let o = r.out in let l = o.fits.2 place o.part o.has in
-      (w.from, w.seen, o.parts, l.0, o.fits.0, l.1, allowed_stays o.part l.0 w.seen w.seen event l.2 (begins_self w.seen) r.may)
 
   kept : (core t : C) (w : View E P) (place : ℕ) (event : Ev) (reply : R) (r : IsReady core w place event) → does core place event t reply
       → Keeps part_at onward places safe place w.from core t (w.seen ++ appended core place event) r.out.parts

@@ -1,5 +1,5 @@
 -- Giving a place away, taking one in and giving it up keep the rule.
-use Rattle.std.proofs.Common.{◌≡◌, ℕ, ◌<◌, ◌≢◌, ◌⊎◌, List, [], ◌∷◌, ◌++◌, length, get_or, set, sym, refl, ap, ◌∙◌, subst, inl, inr, ⊎_elim, Option, Some, None}
+use Rattle.std.proofs.Common.{◌≡◌, ℕ, ◌<◌, ◌≢◌, List, [], length, set, sym, refl, ap, ◌∙◌, subst, inl, inr, ⊎_elim, Option, Some, None}
 use Rattle.std.proofs.lemmas.List.{set-get_or}
 use Rattle.std.proofs.lemmas.Option.{same_Some, none-some}
 use mathlib.Core.Option.{none, some}
@@ -7,8 +7,8 @@ use lib.ListN.{get_elem?}
 use Rattle.atomic_table.specs.Table.{State, Me, step, keeps, Allows, Splits, Joins}
 use Rattle.atomic_table.proofs.Lists.{at_set, set_here, set_else}
 use Rattle.seat_lock.specs.declared.view.View.{View}
-use Rattle.seat_lock.specs.Parts.{Has, Begins}
-use Rattle.seat_lock.specs.Rule.{Sits, Agree, OneTurn, Fits, Ruled}
+use Rattle.seat_lock.specs.Parts.{Has}
+use Rattle.seat_lock.specs.Rule.{Sits, Agree, Ruled}
 use Rattle.seat_lock.specs.Told.{released}
 use Rattle.seat_lock.specs.Views.{cut_left, cut_right, noting, vacated, taken_in, freed, spent}
 use Rattle.seat_lock.proofs.Lists.{inside, begins_self, same_place}

@@ -6,9 +6,8 @@ use lib.ListN.{get_elem?}
 use Rattle.atomic_table.specs.Table.{State, Me, step, keeps, Allows, Splits, Joins}
 use Rattle.atomic_table.proofs.Lists.{set_again, at_longer}
 use Rattle.seat_lock.specs.declared.view.View.{View}
-use Rattle.seat_lock.specs.Parts.{Has, Begins}
-use Rattle.seat_lock.specs.Rule.{Sits, NoTurn, OneTurn, Fits, Ruled}
-use Rattle.seat_lock.specs.Told.{Looked, looked}
+use Rattle.seat_lock.specs.Rule.{NoTurn, OneTurn, Fits, Ruled}
+use Rattle.seat_lock.specs.Told.{looked}
 use Rattle.seat_lock.specs.Views.{looking, noted, told_of, spent}
 use Rattle.seat_lock.proofs.Lists.{begins_self, at_end}
 use Rattle.seat_lock.proofs.Fairness.{not_none, own, agree_step, nowhere, quiet, turning, agree_more, agree_joined}

@@ -1,5 +1,5 @@
 -- What each call on a chair leaves, said of the views before and after it.
-use Rattle.std.specs.Prelude.{◌≡◌, ◌≢◌, ◌<◌, ◌≤◌, ℕ, List, [], ◌++◌, Option, Some, None, Bool, true, Result, Ok, slice_set}
+use Rattle.std.specs.Prelude.{◌≡◌, ◌≢◌, ◌<◌, ℕ, List, [], ◌++◌, Option, Some, None, Bool, true, Result, Ok, slice_set}
 use Rattle.seat_lock.specs.declared.view.View.{View}
 use Rattle.seat_lock.specs.Parts.{Has, Begins, how_many}
 use Rattle.seat_lock.specs.Rule.{Fits}

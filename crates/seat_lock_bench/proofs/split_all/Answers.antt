@@ -1,6 +1,6 @@
-use Rattle.std.proofs.Common.{◌≡◌, ◌∙◌, ℕ, All, ap, sym, subst}
+use Rattle.std.proofs.Common.{◌∙◌, ℕ, All, ap, sym, subst}
 use Rattle.std.proofs.lemmas.List.Elements.{All-push}
-use Rattle.seat_lock.specs.Chairs.{Sight, IsSeated}
+use Rattle.seat_lock.specs.Chairs.{IsSeated}
 use Rattle.seat_lock.specs.declared.view.View.{View}
 use Rattle.seat_lock_bench.proofs.split_all.Goals as goal
 

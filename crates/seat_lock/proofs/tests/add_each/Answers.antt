@@ -1,4 +1,4 @@
-use Rattle.std.proofs.Common.{◌≡◌, ℕ, arith, subst}
+use Rattle.std.proofs.Common.{ℕ, arith, subst}
 use Rattle.seat_lock.specs.Chairs.{Sight, IsSeated}
 use Rattle.seat_lock.proofs.tests.add_each.Goals as goal
 

@@ -1,4 +1,4 @@
-use Rattle.std.proofs.Common.{◌≡◌, ℕ, Some, ap, ◌∙◌}
+use Rattle.std.proofs.Common.{ℕ, ap, ◌∙◌}
 use Rattle.seat_lock.specs.Chairs.{Sight}
 use Rattle.seat_lock.proofs.tests.gather.Goals as goal
 

@@ -1,4 +1,4 @@
-use Rattle.std.proofs.Common.{All, IfSome, Option, ℕ, subst}
+use Rattle.std.proofs.Common.{IfSome, Option, ℕ, subst}
 use Rattle.std.proofs.lemmas.List.Elements.{All-pop}
 use Rattle.seat_lock.specs.Chairs.{Sight, IsSeated}
 use Rattle.seat_lock.proofs.tests.gather_all.Goals as goal

@@ -1,4 +1,3 @@
-use Rattle.std.proofs.Common.{◌≡◌}
 use Rattle.seat_lock.proofs.Making.{readies, acted_from}
 use Rattle.seat_lock.proofs.lock.SeatLock.act_at.Goals as goal
 

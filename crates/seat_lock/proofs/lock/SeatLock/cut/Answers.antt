@@ -1,4 +1,4 @@
-use Rattle.std.proofs.Common.{rules, ◌≡◌, ℕ, Option, Some, sym, subst}
+use Rattle.std.proofs.Common.{rules, ℕ, Option, sym, subst}
 use Rattle.atomic_table.specs.Table.{Splits}
 use Rattle.seat_lock.specs.Rule.{Ruled}
 use Rattle.seat_lock.specs.Views.{cut_left, cut_right}

@@ -1,4 +1,4 @@
-use Rattle.std.proofs.Common.{rules, ◌≡◌, ap, ◌∙◌, Some}
+use Rattle.std.proofs.Common.{rules, ap, ◌∙◌, Some}
 use Rattle.seat_lock.specs.Turns.{Hosts}
 use Rattle.seat_lock.proofs.Lists.{slot_there, slot_found, slot_alone}
 use Rattle.seat_lock.proofs.Making.{at_core}

@@ -1,4 +1,4 @@
-use Rattle.std.proofs.Common.{◌≡◌, ap, ◌∙◌}
+use Rattle.std.proofs.Common.{ap, ◌∙◌}
 use Rattle.seat_lock.proofs.Joining.{hosts_of, joined_from}
 use Rattle.seat_lock.proofs.lock.SeatLock.join_with.Goals as goal
 

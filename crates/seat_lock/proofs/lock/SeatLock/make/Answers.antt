@@ -1,4 +1,4 @@
-use Rattle.std.proofs.Common.{rules, ◌≡◌, ℕ, ◌+◌, ◌-◌, ◌<◌, ◌≤◌, ◌++◌, List, ◌∷◌, ap, ◌∙◌, arith, length, Some}
+use Rattle.std.proofs.Common.{rules, ◌≡◌, ◌++◌, ap, ◌∙◌, arith, length, Some}
 use Rattle.seat_lock.specs.Turns.{Ready}
 use Rattle.seat_lock.specs.Views.{extended}
 use Rattle.seat_lock.proofs.Lists.{slot_there, slot_found, slot_alone}

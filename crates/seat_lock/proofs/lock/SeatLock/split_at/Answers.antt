@@ -1,4 +1,4 @@
-use Rattle.std.proofs.Common.{◌≡◌, ◌∙◌, Ok, Err}
+use Rattle.std.proofs.Common.{◌∙◌, Err}
 use Rattle.seat_lock.proofs.Making.{out_of}
 use Rattle.seat_lock.proofs.Forking.{answered_from, split_from, ok_map, err_map}
 use Rattle.seat_lock.proofs.lock.SeatLock.split_at.Goals as goal

@@ -1,4 +1,4 @@
-use Rattle.std.proofs.Common.{◌≡◌, refl, sym, subst}
+use Rattle.std.proofs.Common.{refl, sym, subst}
 use Rattle.seat_lock.specs.Told.{Taken}
 use Rattle.seat_lock.proofs.Lists.{begins_self}
 use Rattle.seat_lock.proofs.Making.{taken_from}

@@ -1,4 +1,4 @@
-use Rattle.std.proofs.Common.{rules, ◌≡◌, arith}
+use Rattle.std.proofs.Common.{rules, arith}
 use Rattle.seat_lock.proofs.Turning.{calls}
 use Rattle.seat_lock.proofs.lock.SeatLock.take_or_call.Goals as goal
 
