@@ -42,7 +42,8 @@ impl<C: Stepped> SeatLock<C> {
     {
         self.take(rt, seat);
         let out = self.finds_out(seat);
-        if out > 1 {
+        let shared = out > 1;
+        if shared {
             self.put_back(seat);
             return Err(out);
         }
