@@ -135,6 +135,8 @@ fn sum_of<R: Threads + Wait + Sync>(rt: &R, alloc: Global, seats: u32) -> Option
 fn seats_add_up(rt: HostRuntime) -> Result<(), Fail> {
     assert!(&rt; sum_of(&rt, rt.alloc(), 2) == Some(2_000));
     assert!(&rt; sum_of(&rt, rt.alloc(), 16) == Some(16_000));
+    // No place is left for a seventeenth.
+    assert!(&rt; sum_of(&rt, rt.alloc(), 17).is_none());
     Ok(())
 }
 
