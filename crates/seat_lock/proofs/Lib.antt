@@ -1,0 +1,10 @@
+pub mod Lists
+pub mod Fairness
+pub mod Turning
+pub mod Telling
+pub mod Placing
+pub mod Opening
+pub mod Making
+pub mod Forking
+pub mod Joining
+pub mod Closing

@@ -1,0 +1,9 @@
+pub mod Parts
+pub mod Views
+pub mod Rule
+pub mod Told
+pub mod Turns
+pub mod Outcomes
+pub mod Chairs
+pub mod Counters
+pub mod CounterLaws

@@ -1,0 +1,144 @@
+//! A counter with sixteen places, the least that a lock can hold. Tests share it, and the cost of a step is measured on it.
+ghost use Rattle.std.specs.Prelude.{◌≡◌, ◌≤◌, ◌<◌, ℕ, [], Some, None, IsTrue};
+ghost use Rattle.seat_lock.specs.Parts.{listing};
+ghost use Rattle.seat_lock.specs.Counters.{part_of, places_of, Sound};
+
+use crate::stepped::Stepped;
+
+/// How many places a counter has.
+pub const PLACES: u32 = 16;
+
+/// A count up to a limit, and for each place that is out the count that its seat was last told.
+#[derive(Drop)]
+pub struct Counter {
+    pub count: u64,
+    pub limit: u64,
+    pub parts: [Option<u64>; 16],
+}
+
+/// What a seat may ask of it.
+#[derive(Drop)]
+pub enum Ask {
+    /// To add one. It waits while the count is at the limit.
+    Add,
+    /// To wait until the count is this high.
+    Reach(u64),
+}
+
+impl Counter {
+    /// A counter at 0, of which place 0 alone is out.
+    pub fn new(limit: u64) -> Counter
+        ensures first { (result.count ≡ 0) × (result.limit ≡ limit) × (part_of result 0 ≡ Some 0) }
+        ensures alone { (p : ℕ) → 0 < p → part_of result p ≡ None }
+        ensures places { places_of result ≡ 16 }
+        ensures sound { Sound result 0 [] (listing (part_of result) 16) }
+    {
+        let mut parts = [None; 16];
+        parts[0] = Some(0);
+        Counter {
+            count: 0,
+            limit,
+            parts,
+        }
+    }
+}
+
+impl Stepped for Counter {
+    ghost use Rattle.std.specs.Prelude.{◌≡◌, ◌≤◌};
+    ghost use Rattle.seat_lock.specs.Counters.{places_of, part_of, entries_of, Sound, enabled_in, after, forked_as, without_place};
+    ghost use Rattle.seat_lock.specs.CounterLaws.{counter_steps, counter_forks, counter_refuses, counter_joins};
+    ghost use Rattle.std.proofs.Common.{le_refl, le_trans};
+
+    type Event = Ask;
+
+    type Reply = u64;
+
+    type Part = u64;
+
+    type Entry = u32;
+
+    ghost places = { places_of };
+
+    ghost part_at = { part_of };
+
+    ghost appended = { entries_of };
+
+    ghost safe = { Sound };
+
+    ghost onward = { λ x y. x ≤ y };
+
+    ghost allowed = { λ _ _ _. Unit {0} };
+
+    ghost is_enabled = { λ s _ event. enabled_in s event };
+
+    ghost does = { λ s seat event t reply. (t ≡ after s seat event) × (reply ≡ t.count) };
+
+    ghost forks = { λ s _ t r. forked_as s t r };
+
+    ghost joins = { λ s _ other t. t ≡ without_place s other };
+
+    ghost idle = { λ _. Unit {0} };
+
+    ghost front_is = { λ s. s.count };
+
+    fn enabled(&self, seat: u32, event: &Ask) -> bool {
+        match event {
+            Ask::Add => self.count < self.limit,
+            Ask::Reach(n) => *n <= self.count,
+        }
+    }
+
+    fn step(&mut self, seat: u32, event: Ask) -> u64 {
+        if let Ask::Add = event {
+            self.count += 1;
+        }
+        self.parts[seat as usize] = Some(self.count);
+        self.count
+    }
+
+    fn front(&self) -> u64 {
+        self.count
+    }
+
+    fn out(&self) -> u32 {
+        let mut out = 0;
+        for place in 0..16 {
+            if self.parts[place].is_some() {
+                out += 1;
+            }
+        }
+        out
+    }
+
+    fn fork(&mut self, seat: u32) -> Result<u32, u64> {
+        for place in 0..PLACES {
+            if self.parts[place as usize].is_none() {
+                self.parts[place as usize] = Some(self.count);
+                return Ok(place);
+            }
+        }
+        Err(self.count)
+    }
+
+    fn join(&mut self, seat: u32, other: u32) {
+        self.parts[other as usize] = None;
+    }
+
+    ghost step_keeps = { λ s t seat from history parts x y event reply ok has is on may allow moved. counter_steps s t seat from y history parts event ok is moved.0 };
+
+    ghost fork_keeps = { counter_forks };
+
+    ghost refusal_keeps = { counter_refuses };
+
+    ghost join_keeps = { counter_joins };
+
+    ghost idle_stays = { λ _ _ _ _. tt };
+
+    ghost onward_self = { le_refl };
+
+    ghost onward_on = { λ x y z a b. le_trans a b };
+
+    ghost allowed_stays = { λ _ _ _ _ _ _ _ _. tt };
+
+    ghost front_counts = { λ s from history parts ok. ok.counted };
+}

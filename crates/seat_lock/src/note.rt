@@ -1,0 +1,58 @@
+//! Telling another seat what one has seen. No call here waits.
+ghost use Rattle.std.specs.Prelude.{◌≡◌, List, [], ◌∷◌, None};
+ghost use Rattle.seat_lock.specs.Parts.{Begins};
+ghost use Rattle.seat_lock.specs.Views.{told_of};
+ghost use Rattle.seat_lock.specs.Chairs.{note_of, seeing};
+
+use crate::chair::Chair;
+use crate::lock::SeatLock;
+use crate::rule::{Look, Note, SeatOf, Starts, Tell};
+use crate::stepped::Stepped;
+use atomic_table::Badge;
+use std::marker::Brand;
+use std::mem;
+
+impl<C: Stepped> SeatLock<C> {
+    /// A chair without a place, which has seen as much. It can go to another thread, whose chair learns from it.
+    pub fn note(&self, chair: &mut Chair<C::Entry, C::Part>) -> Chair<C::Entry, C::Part>
+        requires { chair.old.table_id ≡ self.now.table.shared.table_id }
+        ensures same { chair.new ≡ chair.old }
+        ensures note { result ≡ note_of chair.old }
+    {
+        let badge = mem::replace(&mut chair.badge, Badge::blank());
+        let mut seat = badge.into_seat::<Option<C>>();
+        let other = self.table.shared.split_seat::<Note>(&mut seat);
+        chair.badge = seat.into_badge();
+        Chair {
+            badge: other.into_badge(),
+            place: None,
+        }
+    }
+
+    // The seat is told of what the other has seen, which is then spent.
+    fn tell<J: Starts>(&self, seat: &mut SeatOf<C>, other: SeatOf<C>)
+        requires seats { (seat.old.table_id ≡ self.now.table.shared.table_id) × (other.table_id ≡ self.now.table.shared.table_id) × (other.me.1 ≡ []) }
+        requires views { (seat.old.me.0.told ≡ []) × (other.me.0.told ≡ []) × (other.me.0.notes ≡ None) × (J.front ≡ seat.old.me.0.from) }
+        ensures { (seat.new.table_id ≡ seat.old.table_id) × (seat.new.id ≡ seat.old.id) × (seat.new.me ≡ (told_of seat.old.me.0 other.me.0, seat.old.me.1)) }
+    {
+        self.table.shared.join_seat::<Tell<J>>(seat, other);
+    }
+
+    /// Sees all of the history so far, which begins with what the chair had seen, and with what the note has.
+    pub fn learn(&self, chair: &mut Chair<C::Entry, C::Part>, note: Chair<C::Entry, C::Part>)
+        requires own { (chair.old.table_id ≡ self.now.table.shared.table_id) × (note.table_id ≡ self.now.table.shared.table_id) }
+        requires note { note.seat ≡ None }
+        ensures { (history : List C.Entry) × Begins chair.old.seen history × Begins note.seen history × (chair.new ≡ seeing chair.old history) }
+    {
+        let Chair {
+            badge: told,
+            place: _,
+        } = note;
+        let badge = mem::replace(&mut chair.badge, Badge::blank());
+        let mut seat = badge.into_seat::<Option<C>>();
+        let other = told.into_seat::<Option<C>>();
+        self.tell::<Brand>(&mut seat, other);
+        self.table.shared.load::<Look>(&mut seat, 0);
+        chair.badge = seat.into_badge();
+    }
+}
