@@ -45,10 +45,23 @@ fn is_kept(part: u32, count: usize) -> bool
     holds(&page, part, &cells[..count])
 }
 
+/// Whether each part of a directory of so many cells is kept: all but the last have a thousand.
+fn is_kept_whole(cells: u32) -> bool
+    requires { 1 ≤ cells }
+{
+    let (last, index) = part_of(cells - 1);
+    for part in 0..last {
+        if !is_kept(part, 1000) {
+            return false;
+        }
+    }
+    is_kept(last, index as usize + 1)
+}
+
 #[test]
 fn directories_are_kept(rt: HostRuntime) -> Result<(), Fail> {
-    for (part, count) in [(0, 1), (u32::MAX, 2), (3, 999), (19, 1000)] {
-        assert!(rt; is_kept(part, count));
+    for cells in [1, 2, 999, 1000, 1001, 2500] {
+        assert!(rt; is_kept_whole(cells));
     }
     Ok(())
 }
@@ -90,7 +103,7 @@ fn is_judged(part: u32, count: usize) -> bool
 
 #[test]
 fn no_byte_is_passed_over(rt: HostRuntime) -> Result<(), Fail> {
-    assert!(rt; is_judged(5, 600));
+    assert!(rt; is_judged(u32::MAX, 600));
     Ok(())
 }
 
