@@ -1,5 +1,5 @@
 //! Cells of a directory page that get another bucket.
-ghost use Rattle.std.specs.Prelude.{◌≡◌, ◌<◌, ℕ, List, length, slice_index, EachIndex, IsTrue};
+ghost use Rattle.std.specs.Prelude.{◌≡◌, ℕ, List, length, slice_index, IsTrue};
 ghost use Rattle.grid_model.specs.Lists.{is_among};
 ghost use Rattle.directory_pages.specs.Spelling.{Spells, bucket_in};
 ghost use Rattle.directory_pages.specs.Patching.{AreCells, IsOutside, patched};

@@ -1,5 +1,5 @@
 //! Whether a page is a directory page.
-ghost use Rattle.std.specs.Prelude.{◌≡◌, ◌≤◌, ◌↔◌, IsTrue};
+ghost use Rattle.std.specs.Prelude.{◌≤◌, ◌↔◌, IsTrue};
 ghost use Rattle.directory_pages.specs.Spelling.{IsPart};
 ghost use Rattle.directory_pages.specs.Reading.{IsHead};
 
