@@ -1,0 +1,5 @@
+pub mod Words
+pub mod Standing
+pub mod Joining
+pub mod Setting
+pub mod Patches

@@ -1,0 +1,20 @@
+//! Directory pages: a thousand cells make a part of the directory, and the page of a part has the bucket number of each
+//! of its cells.
+#![tactic(auto)]
+
+mod cells;
+mod laws;
+mod parts;
+mod patching;
+mod reading;
+mod writing;
+
+pub use cells::{bucket_at, set_bucket};
+pub use laws::spelling_law;
+pub use parts::part_of;
+pub use patching::patch;
+pub use reading::decode;
+pub use writing::encode;
+
+#[cfg(test)]
+mod tests;
