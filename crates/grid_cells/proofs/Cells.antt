@@ -1,5 +1,5 @@
 -- The cell in a place, attribute by attribute.
-use Rattle.std.proofs.Common.{◌⊎◌, inl, inr, ◌≢◌, ◌≡◌, ◌<◌, ◌≤◌, ◌+◌, ◌*◌, ◌/◌, ◌%◌, ℕ, zero, suc, List, [], ◌∷◌, ◌++◌, length, slice_index, slice_set, take, drop, map, slice_get, Some, refl, sym, ap, ◌∙◌, subst, arith, append_assoc}
+use Rattle.std.proofs.Common.{◌⊎◌, inl, inr, ◌≢◌, ◌≡◌, ◌<◌, ◌≤◌, ◌+◌, ◌*◌, ◌/◌, ◌%◌, ℕ, zero, suc, List, [], ◌∷◌, ◌++◌, length, slice_index, slice_set, take, drop, map, slice_get, refl, sym, ap, ◌∙◌, subst, arith, append_assoc}
 use Rattle.std.proofs.Math.Nat.{div-lt_iff_lt-mul}
 use Rattle.std.proofs.lemmas.Bool.{cases_lt}
 use Rattle.std.proofs.lemmas.Nat.{div-add-mod', mod_below}
@@ -35,8 +35,8 @@ completes-more ns cell a rest size at p q s e r h d c f =
     let first = drop_more ns a 0 p in
     let there : place (n ∷ drop (a + 1) ns) (digit ∷ d) ≡ rest = place-on n digit (drop (a + 1) ns) d c.count ∙ (λ i. digit * (sym e i) + f i) ∙ div-add-mod' rest size in
     let whole : place ns (take a cell ++ digit ∷ d) ≡ at = h (digit ∷ d)
-      (subst (λ (ms : List ℕ). IsCell ms (digit ∷ d)) (sym first) (cons-cell n digit (drop (a + 1) ns) d (interval-below ns a rest size p s e r) c))
-      (ap (λ ms. place ms (digit ∷ d)) first ∙ there) in
+    (subst (λ (ms : List ℕ). IsCell ms (digit ∷ d)) (sym first) (cons-cell n digit (drop (a + 1) ns) d (interval-below ns a rest size p s e r) c))
+    (ap (λ ms. place ms (digit ∷ d)) first ∙ there) in
     ap (λ xs. place ns (xs ++ d)) (take_more_set cell a digit q) ∙ ap (place ns) (append_assoc (take a cell) (digit ∷ []) d) ∙ whole
 
 -- no two cells have one place

@@ -1,3 +1,4 @@
 pub mod Products
 pub mod Cells
 pub mod Walks
+pub mod Literals

@@ -1,5 +1,5 @@
 -- Products of numbers that are at least 1, and places that are built up by attribute.
-use Rattle.std.proofs.Common.{◌≡◌, ◌<◌, ◌≤◌, ◌+◌, ◌*◌, ◌/◌, ℕ, zero, suc, List, [], ◌∷◌, length, slice_index, drop, fold, zip, map, refl, sym, ap, ◌∙◌, subst, arith}
+use Rattle.std.proofs.Common.{◌≡◌, ◌<◌, ◌≤◌, ◌+◌, ◌*◌, ◌/◌, ℕ, zero, suc, List, [], ◌∷◌, length, slice_index, drop, fold, zip, map, sym, ap, ◌∙◌, arith}
 use Rattle.std.proofs.Math.Nat.{mul_assoc, le-mul_of_pos_right, one-le-mul, mul-div_cancel_left}
 use Rattle.std.proofs.lemmas.List.{drop_more, drop_all}
 use Rattle.std.proofs.lemmas.Option.{slice_get_within}

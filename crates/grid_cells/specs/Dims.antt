@@ -1,5 +1,5 @@
 -- How many intervals each attribute has.
-use Rattle.std.specs.Prelude.{◌≡◌, ◌<◌, ◌≤◌, ℕ, List, length, slice_index}
+use Rattle.std.specs.Prelude.{◌<◌, ◌≤◌, ℕ, List, length, slice_index}
 use Rattle.grid_model.specs.Lists.{product}
 
 -- each attribute has an interval, and there are at most a million cells

@@ -7,3 +7,6 @@ mod walk;
 
 pub use dims::Dims;
 pub use image::image_of;
+
+#[cfg(test)]
+mod tests;
