@@ -2,3 +2,4 @@ pub mod Products
 pub mod Cells
 pub mod Walks
 pub mod Literals
+pub mod Images

@@ -3,10 +3,12 @@
 
 mod dims;
 mod image;
+mod laws;
 mod walk;
 
 pub use dims::Dims;
 pub use image::image_of;
+pub use laws::refinement_law;
 
 #[cfg(test)]
 mod tests;
