@@ -1,0 +1,5 @@
+pub mod Products
+pub mod Cells
+pub mod Walks
+pub mod Literals
+pub mod Images

@@ -1,0 +1,5 @@
+use Rattle.grid_cells.proofs.Images.{lie-in-images}
+use Rattle.grid_cells.proofs.laws.refinement_law.Goals as goal
+
+pub returns : goal.returns
+returns c = lie-in-images

@@ -1,0 +1,23 @@
+-- What a refinement keeps.
+use Rattle.std.specs.Prelude.{◌≡◌, ◌<◌, ◌≤◌, ℕ, List, false, length, slice_set, IsTrue}
+use Rattle.grid_model.specs.Lists.{is_among}
+use Rattle.grid_model.specs.Scales.{top, scale_of, is_scale, interval, refined}
+use Rattle.grid_model.specs.Cells.{dims, cell_of, corner, image_of}
+use Rattle.grid_model.specs.ScaleLaws.{IsCell}
+
+-- the scales with a fresh boundary in an attribute
+pub record IsRefinement (scales : List (List ℕ)) (a v : ℕ) : Type 0 where
+  pub scales_lawful : (b : ℕ) → b < length scales → IsTrue (is_scale (scale_of scales b))
+  pub attribute : a < length scales
+  pub fresh : is_among (scale_of scales a) v ≡ false
+  pub least : 1 ≤ v
+  pub greatest : v ≤ top
+
+-- the scales after it
+abbrev pub after_refinement : List (List ℕ) → ℕ → ℕ → List (List ℕ)
+after_refinement scales a v = slice_set scales a (refined (scale_of scales a) v)
+
+-- each cell of a refined directory lies in its image: the image is a cell of the directory before, and has the lowest key of the cell
+pub record LieInImages : Type 0 where
+  pub is_cell : (scales : List (List ℕ)) (a v : ℕ) (cell : List ℕ) → IsRefinement scales a v → IsCell (dims (after_refinement scales a v)) cell → IsCell (dims scales) (image_of cell a (interval (scale_of scales a) v))
+  pub lowest_key : (scales : List (List ℕ)) (a v : ℕ) (cell : List ℕ) → IsRefinement scales a v → IsCell (dims (after_refinement scales a v)) cell → cell_of scales (corner (after_refinement scales a v) cell) ≡ image_of cell a (interval (scale_of scales a) v)

@@ -1,0 +1,5 @@
+pub mod Searching
+pub mod Meeting
+pub mod Filling
+pub mod Ranges
+pub mod Querying

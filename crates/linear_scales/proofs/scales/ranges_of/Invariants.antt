@@ -1,0 +1,10 @@
+use Rattle.std.proofs.Common.{◌≡◌, ◌<◌, ℕ, length, slice_index}
+use Rattle.linear_scales.proofs.Ranges.{AreRanges}
+use Rattle.linear_scales.proofs.scales.ranges_of.Given as goal
+
+abbrev pub invariant-loop-a : goal.invariant-loop-a
+invariant-loop-a g l = record {
+  low : length l.lowest ≡ g.row.K;
+  high : length l.highest ≡ g.row.K;
+  each : (k : ℕ) → k < l.a → AreRanges l.scales l.sides k (slice_index l.lowest k) (slice_index l.highest k);
+}

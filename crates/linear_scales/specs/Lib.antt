@@ -1,0 +1,5 @@
+pub mod Limited
+pub mod Searches
+pub mod Refusals
+pub mod Sides
+pub mod Queries

@@ -1,0 +1,14 @@
+//! Linear scales: the boundaries that part the numbers of an attribute into intervals, one scale for each attribute.
+#![tactic(auto)]
+
+mod boundaries;
+mod refused;
+mod scale;
+mod scales;
+
+pub use refused::ScaleRefused;
+pub use scale::Scale;
+pub use scales::Scales;
+
+#[cfg(test)]
+mod tests;

@@ -1,0 +1,159 @@
+//! A scale for each attribute.
+ghost use Rattle.std.specs.Prelude.{◌≡◌, ◌<◌, ◌≤◌, ◌↔◌, ℕ, List, [], length, map, replicate, slice_index, slice_index_or, slice_set, IsTrue, All, OnOk, OnErr, IfOk, IfErr};
+ghost use Rattle.grid_types.specs.Queries.{is_straight, is_lawful};
+ghost use Rattle.grid_types.specs.Regions.{Within};
+ghost use Rattle.grid_types.specs.declared.query.Side.{Side};
+ghost use Rattle.grid_model.specs.Scales.{scale_of, interval, refined};
+ghost use Rattle.grid_model.specs.Cells.{dims, cell_of};
+ghost use Rattle.grid_model.specs.ScaleLaws.{IsCell};
+ghost use Rattle.linear_scales.specs.Limited.{LimitedScale, scales_of, limits_of};
+ghost use Rattle.linear_scales.specs.Refusals.{MayTake, IsCause};
+ghost use Rattle.linear_scales.specs.Sides.{begin_of, end_of, Meets};
+ghost use Rattle.linear_scales.specs.Queries.{lowest_cell, highest_cell, MeetsQuery};
+
+use crate::{Scale, ScaleRefused};
+use grid_types::{Key, Query, Side};
+use std::alloc::{AllocError, Global};
+use std::marker::Model;
+
+/// A scale for each of the K attributes.
+#[derive(Drop)]
+pub struct Scales<const K: usize> {
+    of: Vec<Scale>,
+}
+
+impl<const K: usize> Model for Scales<K> {
+    ghost use Rattle.std.specs.Prelude.{◌≡◌, List, length};
+    ghost use Rattle.linear_scales.specs.Limited.{LimitedScale};
+
+    ghost Value = { List LimitedScale };
+
+    ghost view = { λ s. s.of.items };
+
+    ghost invariant = { λ s. length s.of.items ≡ K };
+}
+
+/// Makes scales the other ones. It takes no memory.
+fn copy_each(scales: &mut [Scale], others: &[Scale])
+    requires count { length others.now ≡ length scales.old }
+    requires limits { limits_of others.now ≡ limits_of scales.old }
+    ensures { scales.new ≡ others.now }
+{
+    for a in 0..others.len() {
+        scales[a].copy_from(&others[a]);
+    }
+}
+
+/// The interval of each number in the scale at its place.
+fn intervals_of<const K: usize>(scales: &[Scale], numbers: &[u64; K]) -> [u32; K]
+    requires { length scales.now ≡ K }
+    ensures value { result ≡ cell_of (scales_of scales.now) numbers.now }
+    ensures inside { IsCell (dims (scales_of scales.now)) result }
+{
+    let mut cell = [0; K];
+    for a in 0..K {
+        cell[a] = scales[a].interval(numbers[a]);
+    }
+    cell
+}
+
+/// How many intervals each scale has.
+fn dims_of<const K: usize>(scales: &[Scale]) -> [u32; K]
+    requires count { length scales.now ≡ K }
+    requires few { (a : ℕ) (d : LimitedScale) → a < K → (slice_index_or scales.now a d).limit < 4294967295 }
+    ensures { result ≡ dims (scales_of scales.now) }
+{
+    let mut dims = [0; K];
+    for a in 0..K {
+        dims[a] = scales[a].intervals();
+    }
+    dims
+}
+
+/// The lowest and the highest interval of each scale that meet the side at its place.
+fn ranges_of<const K: usize>(scales: &[Scale], sides: &[Side; K]) -> ([u32; K], [u32; K])
+    requires count { length scales.now ≡ K }
+    requires lawful { IsTrue (is_lawful sides.now) }
+    ensures lowest { result.0 ≡ lowest_cell (scales_of scales.now) sides.now }
+    ensures highest { result.1 ≡ highest_cell (scales_of scales.now) sides.now }
+    ensures meets { (cell : List ℕ) → IsCell (dims (scales_of scales.now)) cell → MeetsQuery K (scales_of scales.now) sides.now cell ↔ Within result.0 result.1 cell }
+{
+    let mut lowest = [0; K];
+    let mut highest = [0; K];
+    for a in 0..K {
+        let (low, high) = scales[a].interval_range(&sides[a]);
+        lowest[a] = low;
+        highest[a] = high;
+    }
+    (lowest, highest)
+}
+
+impl<const K: usize> Scales<K> {
+    /// A scale without boundaries for each attribute. All memory for boundaries up to the limit is taken here.
+    pub fn new(alloc: Global, limit: u32) -> Result<Scales<K>, AllocError>
+        ensures { IfOk result (λ s. s ≡ replicate K (record { boundaries = []; limit = limit })) }
+    {
+        let mut of = Vec::with_capacity(alloc, K)?;
+        for _a in 0..K {
+            of.push(Scale::new(alloc, limit)?)?;
+        }
+        Ok(Scales { of })
+    }
+
+    /// The scale of an attribute.
+    pub fn scale(&self, a: usize) -> &Scale
+        requires { a < K }
+        ensures scale { (d : LimitedScale) → result.now ≡ slice_index_or self.now a d }
+        ensures boundaries { result.now.boundaries ≡ scale_of (scales_of self.now) a }
+        ensures count { length self.now ≡ K }
+    {
+        &self.of[a]
+    }
+
+    /// Adds a boundary to the scale of an attribute. It takes no memory.
+    pub fn refine(&mut self, a: usize, v: u64) -> Result<(), ScaleRefused>
+        requires attribute { a < K }
+        requires low { 1 ≤ v }
+        ensures taken { (d : LimitedScale) → OnOk result (MayTake (slice_index_or self.old a d) v) }
+        ensures refused { (d : LimitedScale) → IfErr result (IsCause (slice_index_or self.old a d) v) }
+        ensures scales { OnOk result (scales_of self.new ≡ slice_set (scales_of self.old) a (refined (scale_of (scales_of self.old) a) v)) }
+        ensures limits { limits_of self.new ≡ limits_of self.old }
+        ensures unchanged { OnErr result (self.new ≡ self.old) }
+    {
+        self.of[a].refine(v)
+    }
+
+    /// Makes these scales the other ones. It takes no memory.
+    pub fn copy_from(&mut self, other: &Scales<K>)
+        requires { limits_of other.now ≡ limits_of self.old }
+        ensures { self.new ≡ other.now }
+    {
+        copy_each(&mut self.of, &other.of);
+    }
+
+    /// How many intervals each attribute has.
+    pub fn dims(&self) -> [u32; K]
+        requires { (a : ℕ) (d : LimitedScale) → a < K → (slice_index_or self.now a d).limit < 4294967295 }
+        ensures { result ≡ dims (scales_of self.now) }
+    {
+        dims_of(&self.of)
+    }
+
+    /// The cell of a key.
+    pub fn cell_of(&self, key: &Key<K>) -> [u32; K]
+        ensures value { result ≡ cell_of (scales_of self.now) key.now.at }
+        ensures inside { IsCell (dims (scales_of self.now)) result }
+    {
+        intervals_of(&self.of, &key.at)
+    }
+
+    /// The lowest and the highest cell of the box of cells that meet a query.
+    pub fn box_of(&self, query: &Query<K>) -> ([u32; K], [u32; K])
+        requires { IsTrue (is_lawful query.now.sides) }
+        ensures lowest { result.0 ≡ lowest_cell (scales_of self.now) query.now.sides }
+        ensures highest { result.1 ≡ highest_cell (scales_of self.now) query.now.sides }
+        ensures meets { (cell : List ℕ) → IsCell (dims (scales_of self.now)) cell → MeetsQuery K (scales_of self.now) query.now.sides cell ↔ Within result.0 result.1 cell }
+    {
+        ranges_of(&self.of, &query.sides)
+    }
+}
