@@ -5,7 +5,7 @@ use Rattle.grid_script.specs.Fields.{Without}
 use Rattle.grid_script.proofs.Partings.{one_split, has_it}
 use Rattle.grid_script.proofs.KeyTexts.{key_without}
 use Rattle.grid_script.proofs.Readings.{behind_put}
-use Rattle.grid_script.proofs.request.record_of.Goals as goal
+use Rattle.grid_script.proofs.point_request.record_of.Goals as goal
 
 pub returns-in_default-clause-none : goal.returns-in_default-clause-none
 returns-in_default-clause-none g c = λ key value put.

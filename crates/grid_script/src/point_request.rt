@@ -3,7 +3,7 @@ ghost use Rattle.std.specs.Prelude.{◌≡◌, ◌≤◌, ◌++◌, List, ℕ, c
 ghost use Rattle.grid_types.specs.declared.point.PointRequest.{PointRequest};
 ghost use Rattle.grid_model.specs.PointScript.{Asks, IsPutText};
 
-use crate::fields::{data_of, key_of};
+use crate::point_fields::{data_of, key_of};
 use crate::lines::split_first;
 use grid_types::{Record, PointRequest};
 

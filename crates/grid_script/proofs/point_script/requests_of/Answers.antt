@@ -4,7 +4,7 @@ use Rattle.std.proofs.lemmas.Bool.{eqb-true}
 use Rattle.grid_model.specs.Script.{lines_of}
 use Rattle.grid_model.specs.PointScript.{AskAll}
 use Rattle.grid_script.proofs.LinesOf.{line_at, all_done, AskAll-next}
-use Rattle.grid_script.proofs.script.requests_of.Goals as goal
+use Rattle.grid_script.proofs.point_script.requests_of.Goals as goal
 
 pub loop-rest-preserved : goal.loop-rest-preserved
 loop-rest-preserved g c =

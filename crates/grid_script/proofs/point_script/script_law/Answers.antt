@@ -1,5 +1,5 @@
 use Rattle.grid_script.proofs.Readings.{IsScript-one, IsScript-sound}
-use Rattle.grid_script.proofs.script.script_law.Goals as goal
+use Rattle.grid_script.proofs.point_script.script_law.Goals as goal
 
 pub returns-clause-one : goal.returns-clause-one
 returns-clause-one g c = IsScript-one

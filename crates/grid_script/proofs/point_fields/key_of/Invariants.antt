@@ -1,7 +1,7 @@
 use Rattle.std.proofs.Common.{◌≡◌, ◌<◌, ◌-◌, ◌^◌, ◌++◌, ℕ, List, [], length, take, drop, slice_index}
 use Rattle.grid_model.specs.Text.{key_text}
 use Rattle.grid_types.specs.Keys.{IsKey}
-use Rattle.grid_script.proofs.fields.key_of.Given as goal
+use Rattle.grid_script.proofs.point_fields.key_of.Given as goal
 
 abbrev pub invariant-loop-a : goal.invariant-loop-a
 invariant-loop-a g l = record {

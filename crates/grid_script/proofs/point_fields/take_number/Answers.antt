@@ -3,7 +3,7 @@ use Rattle.std.specs.Prelude.{decimal}
 use Rattle.grid_script.specs.Fields.{Without, Ends}
 use Rattle.grid_script.proofs.Partings.{one_split, has_it, without-decimal}
 use Rattle.grid_script.proofs.KeyTexts.{comma_below}
-use Rattle.grid_script.proofs.fields.take_number.Goals as goal
+use Rattle.grid_script.proofs.point_fields.take_number.Goals as goal
 
 pub returns-in_default-clause-none : goal.returns-in_default-clause-none
 returns-in_default-clause-none c = λ m r lt e.

@@ -3,7 +3,7 @@ use Rattle.std.proofs.lemmas.List.{length-set, append-nil, take_all}
 use Rattle.grid_script.specs.Fields.{Ends}
 use Rattle.grid_model.specs.Text.{key_text}
 use Rattle.grid_script.proofs.KeyTexts.{ends_there, glued, last_one, not_last, is_last, set_below, next_number}
-use Rattle.grid_script.proofs.fields.key_of.Goals as goal
+use Rattle.grid_script.proofs.point_fields.key_of.Goals as goal
 
 pub returns-in_default-clause-none : goal.returns-in_default-clause-none
 returns-in_default-clause-none g c = λ xs k e.

@@ -2,7 +2,7 @@ use Rattle.std.proofs.Common.{◌≡◌, ◌≤◌, ◌+◌, length, take, drop}
 use Rattle.std.specs.Prelude.{vec_len}
 use Rattle.grid_model.specs.Script.{lines_of}
 use Rattle.grid_model.specs.PointScript.{AskAll}
-use Rattle.grid_script.proofs.script.requests_of.Given as goal
+use Rattle.grid_script.proofs.point_script.requests_of.Given as goal
 
 abbrev pub decreases-loop-rest : goal.decreases-loop-rest
 decreases-loop-rest g l = length l.rest
