@@ -1,6 +1,7 @@
 //! Scripts of requests read from bytes, and replies printed.
 #![tactic(auto)]
 
+mod data;
 mod lines;
 mod number;
 mod point_fields;
@@ -8,6 +9,7 @@ mod point_request;
 mod point_script;
 mod point_text;
 mod printer;
+mod reader;
 mod script;
 #[cfg(test)]
 mod tests;
@@ -16,5 +18,6 @@ mod text;
 pub use point_script::{PointScript, read_points, script_law};
 pub use point_text::print_reply;
 pub use printer::print_part;
-pub use script::ScriptFault;
+pub use reader::read_script;
+pub use script::{Script, ScriptFault};
 pub use text::{LINE, Text, print_client, print_front};

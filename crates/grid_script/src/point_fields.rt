@@ -1,13 +1,12 @@
-//! The fields of a line: keys and data.
-ghost use Rattle.std.specs.Prelude.{◌≡◌, ◌<◌, ◌^◌, ◌≤◌, ◌++◌, ◌∷◌, ℕ, List, IfSome, IfNone};
+//! The key in a line.
+ghost use Rattle.std.specs.Prelude.{◌≡◌, ◌<◌, ◌^◌, ◌≤◌, ℕ, List, IfSome, IfNone};
 ghost use Rattle.grid_types.specs.Keys.{IsKey};
 ghost use Rattle.grid_model.specs.Text.{key_text};
-ghost use Rattle.grid_model.specs.PointScript.{IsData};
 ghost use Rattle.grid_script.specs.Fields.{Ends};
 
 use crate::lines::split_first;
 use crate::number::number_of;
-use grid_types::{Data, Key};
+use grid_types::Key;
 
 /// The number in front of a comma, or the last one, and what stands behind it.
 fn take_number(text: &[u8], last: bool) -> Option<(u64, &[u8])>
@@ -48,23 +47,4 @@ pub fn key_of<const K: usize>(text: &[u8]) -> Option<Key<K>>
         rest = after;
     }
     Some(Key { at })
-}
-
-/// The data that a field writes: two digits for each byte, or a dash for no bytes.
-pub fn data_of(field: &[u8]) -> Option<Data>
-    ensures found { IfSome result (λ d. IsData field.now d) }
-    ensures none { IfNone result ((bytes : List ℕ) → IsData field.now bytes → ⊥) }
-{
-    if field == b"-".as_slice() {
-        return Data::new(b"");
-    }
-    if field.is_empty() || 80 < field.len() {
-        return None;
-    }
-    let mut bytes = [0; 40];
-    let part = &mut bytes[..field.len() / 2];
-    match hex::decode_to_slice(field, part) {
-        Ok(()) => Data::new(part),
-        Err(_) => None,
-    }
 }

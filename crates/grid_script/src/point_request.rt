@@ -3,8 +3,9 @@ ghost use Rattle.std.specs.Prelude.{◌≡◌, ◌≤◌, ◌++◌, List, ℕ, c
 ghost use Rattle.grid_types.specs.declared.point.PointRequest.{PointRequest};
 ghost use Rattle.grid_model.specs.PointScript.{Asks, IsPutText};
 
-use crate::point_fields::{data_of, key_of};
+use crate::data::data_of;
 use crate::lines::split_first;
+use crate::point_fields::key_of;
 use grid_types::{Record, PointRequest};
 
 /// The record of a put, from what stands behind the word.

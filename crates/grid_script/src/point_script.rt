@@ -1,19 +1,16 @@
 //! Scripts of puts and gets, as the program of today takes them: a request for each line.
-ghost use Rattle.std.specs.Prelude.{◌≡◌, ◌<◌, ◌≤◌, ◌↔◌, ℕ, List, length, vec_len, IsTrue, IfOk, IsErrOf};
+ghost use Rattle.std.specs.Prelude.{◌≡◌, ◌≤◌, ℕ, List, length, vec_len, IfOk, IsErrOf};
 ghost use Rattle.grid_types.specs.declared.point.PointRequest.{PointRequest};
-ghost use Rattle.grid_model.specs.Script.{lines_of, longest};
+ghost use Rattle.grid_model.specs.Script.{lines_of};
 ghost use Rattle.grid_model.specs.PointScript.{AskAll, IsScript, FirstFault, IsFault};
 ghost use Rattle.grid_script.specs.declared.script.ScriptFault.TheVariants as fault;
 
 use crate::lines::first_line;
 use crate::point_request::request_of;
-use crate::script::ScriptFault;
+use crate::script::{ScriptFault, is_too_long};
 use grid_types::PointRequest;
 use std::alloc::Global;
 use std::marker::Model;
-
-/// The most bytes that a script has.
-const LONGEST: usize = 16_777_216;
 
 /// The requests of a script, in order.
 #[derive(Drop)]
@@ -36,13 +33,6 @@ impl<const K: usize> PointScript<K> {
     {
         self.list.as_slice()
     }
-}
-
-#[tactic(auto, unfolding(grid_model::specs::Script::longest))]
-fn is_too_long(bytes: &[u8]) -> bool
-    ensures { IsTrue result ↔ (longest < length bytes.now) }
-{
-    LONGEST < bytes.len()
 }
 
 /// The requests of all lines, unless one asks nothing.
