@@ -6,3 +6,4 @@ pub mod NumberTexts
 pub mod Partings
 pub mod Pieces
 pub mod Readings
+pub mod Sides
