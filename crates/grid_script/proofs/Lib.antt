@@ -1,4 +1,5 @@
 pub mod AllOf
+pub mod Askings
 pub mod KeyPrints
 pub mod KeyTexts
 pub mod LinesOf

@@ -1,10 +1,10 @@
 -- The number that a word writes.
-use Rattle.std.proofs.Common.{rules, ◌≡◌, ◌∙◌, ◌<◌, ◌≤◌, ◌^◌, ◌+◌, ◌-◌, ◌*◌, ◌&&◌, ◌==◌, ℕ, Bool, true, false, cond, List, fold, Option, Some, None, nat_le, refl, sym, ap, subst, arith, leb-true, le-leb}
+use Rattle.std.proofs.Common.{rules, ◌≡◌, ◌∙◌, ◌<◌, ◌≤◌, ◌^◌, ◌+◌, ◌-◌, ◌*◌, ◌&&◌, ℕ, Bool, true, false, cond, List, fold, Some, None, nat_le, refl, sym, ap, subst, arith, leb-true, le-leb}
 use Rattle.std.specs.Prelude.{decimal}
 use Rattle.std.specs.Str.{all_ascii_digits}
 use Rattle.std.proofs.lemmas.Fmt.{digits_value-decimal}
 use Rattle.std.proofs.lemmas.Str.Parse.{IsNumeralModel, numerals_by_fold, tells_all_ascii_digits}
-use lib.Pointwise.{pointwise, bytes_decides}
+use lib.Pointwise.{bytes_decides}
 use Rattle.grid_types.proofs.Numbers.{first, second, both}
 use Rattle.grid_model.specs.Script.{is_text, value, number_of}
 use Rattle.grid_model.specs.Scales.{top}

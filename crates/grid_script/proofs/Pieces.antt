@@ -1,10 +1,10 @@
 -- The pieces of a text, and its words.
-use Rattle.std.proofs.Common.{◌≡◌, ◌≢◌, ◌∙◌, ◌<◌, ℕ, zero, suc, eqb, Bool, true, false, cond, List, [], ◌∷◌, ◌++◌, length, filter, get_or, slice_index, refl, sym, ap, arith}
+use Rattle.std.proofs.Common.{◌≡◌, ◌≢◌, ◌∙◌, ◌<◌, ℕ, eqb, Bool, true, false, cond, List, [], ◌∷◌, ◌++◌, length, filter, slice_index, refl, sym, ap, arith}
 use Rattle.std.proofs.lemmas.Bool.Decides.{nat_tests}
 use Rattle.grid_model.specs.Script.{pieces, onto_first, is_word, without_return}
 use Rattle.grid_script.specs.Fields.{Without}
 use Rattle.grid_script.specs.Reading.{pieces_left, words_in}
-use Rattle.grid_script.proofs.Partings.{same_head, same_tail, without-head, without-tail}
+use Rattle.grid_script.proofs.Partings.{same_head, without-head, without-tail}
 
 differs : (b c : ℕ) → (b ≡ c → ⊥) → eqb b c ≡ false
 differs b c h = grind (arith, nat_tests)

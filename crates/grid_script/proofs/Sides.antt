@@ -1,6 +1,5 @@
 -- The side that a word writes, from its pieces between dots.
-use Rattle.std.proofs.Common.{◌≡◌, ◌≢◌, ◌∙◌, ◌<◌, ℕ, Bool, true, false, cond, List, [], ◌∷◌, length, codes, Option, Some, None, refl, ap, arith}
-use Rattle.grid_types.specs.declared.query.Side.{Side}
+use Rattle.std.proofs.Common.{◌≡◌, ◌∙◌, ◌<◌, ℕ, false, cond, List, [], ◌∷◌, length, codes, Some, None, refl, ap, arith}
 use Rattle.grid_types.specs.declared.query.Side.TheVariants.{Any}
 use Rattle.grid_model.specs.Script.{is_text, pieces, side_of, side_of_pieces}
 

@@ -1,4 +1,4 @@
-use Rattle.std.proofs.Common.{◌≡◌, ◌∙◌, ◌+◌, ◌<◌, ℕ, List, [], ◌∷◌, length, map, take, set, sym, ap, subst, arith}
+use Rattle.std.proofs.Common.{◌≡◌, ◌∙◌, ◌+◌, ◌<◌, [], ◌∷◌, length, map, take, set, sym, ap, arith}
 use Rattle.std.proofs.lemmas.List.{length-set, length-replicate, length-take-le, take_more_set, take_all}
 use Rattle.grid_model.specs.Script.{pieces, number_of, all_of}
 use Rattle.grid_script.specs.Reading.{pieces_left}

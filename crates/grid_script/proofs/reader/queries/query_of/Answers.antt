@@ -1,4 +1,4 @@
-use Rattle.std.proofs.Common.{◌≡◌, ◌∙◌, ◌+◌, ◌<◌, ℕ, List, [], ◌∷◌, length, map, take, set, Option, sym, ap, subst, arith}
+use Rattle.std.proofs.Common.{◌≡◌, ◌∙◌, ◌+◌, ◌<◌, ℕ, List, [], ◌∷◌, length, map, take, set, Option, sym, ap, arith}
 use Rattle.std.proofs.lemmas.List.{length-set, length-replicate, length-take-le, take_more_set, take_all}
 use Rattle.std.specs.Option.{option_map}
 use Rattle.grid_types.specs.declared.query.Query.{Query}

@@ -1,5 +1,5 @@
 use Rattle.std.proofs.Common.{◌≡◌, ◌∙◌, ◌<◌, false, length, codes, sym, ap, subst}
-use Rattle.grid_model.specs.Script.{is_text, pieces}
+use Rattle.grid_model.specs.Script.{is_text}
 use Rattle.grid_script.specs.Reading.{pieces_left}
 use Rattle.grid_script.proofs.Pieces.{left-more, pieces-some}
 use Rattle.grid_script.proofs.Sides.{side-long}
