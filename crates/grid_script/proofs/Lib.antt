@@ -1,4 +1,10 @@
+pub mod AllOf
+pub mod Askings
+pub mod KeyPrints
 pub mod KeyTexts
 pub mod LinesOf
+pub mod NumberTexts
 pub mod Partings
+pub mod Pieces
 pub mod Readings
+pub mod Sides

@@ -4,7 +4,7 @@ use super::*;
 use grid_types::{Answer, Data, Key, Record, Refusal, PointReply, PointRequest};
 
 /// How many requests were read, or the number of the faulty line.
-fn told(outcome: Result<Script<2>, ScriptFault>) -> Result<usize, u64> {
+fn told(outcome: Result<PointScript<2>, ScriptFault>) -> Result<usize, u64> {
     match outcome {
         Ok(script) => Ok(script.requests().len()),
         Err(ScriptFault::Line(line)) => Err(line),
@@ -47,7 +47,7 @@ fn judges_lines(rt: HostRuntime) {
         ),
     ] {
         assert_eq!(rt;
-            told(read_script(rt.alloc(), text.as_bytes())),
+            told(read_points(rt.alloc(), text.as_bytes())),
             want,
             "{text}"
         );
@@ -57,7 +57,7 @@ fn judges_lines(rt: HostRuntime) {
 #[test]
 fn reads_requests(rt: HostRuntime) {
     let text = "put 3,18446744073709551615 00fFa1\nput 0,7 -\nget 12,0";
-    let script = read_script::<2>(rt.alloc(), text.as_bytes()).expect(&rt, "a script");
+    let script = read_points::<2>(rt.alloc(), text.as_bytes()).expect(&rt, "a script");
     let wanted = [
         PointRequest::Put(Record {
             key: Key { at: [3, u64::MAX] },
