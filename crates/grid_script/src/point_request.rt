@@ -6,7 +6,7 @@ ghost use Rattle.grid_model.specs.PointScript.{Asks, IsPutText};
 use crate::data::data_of;
 use crate::lines::split_first;
 use crate::point_fields::key_of;
-use grid_types::{Record, PointRequest};
+use grid_types::{PointRequest, Record};
 
 /// The record of a put, from what stands behind the word.
 fn record_of<const K: usize>(text: &[u8]) -> Option<Record<K>>

@@ -36,7 +36,10 @@ impl<const K: usize> PointScript<K> {
 }
 
 /// The requests of all lines, unless one asks nothing.
-fn requests_of<const K: usize>(alloc: Global, bytes: &[u8]) -> Result<Vec<PointRequest<K>>, ScriptFault>
+fn requests_of<const K: usize>(
+    alloc: Global,
+    bytes: &[u8],
+) -> Result<Vec<PointRequest<K>>, ScriptFault>
     requires { 1 ≤ K }
     ensures read { IfOk result (λ v. AskAll (lines_of bytes.now) v.items) }
     ensures count { IfOk result (λ v. vec_len v ≤ length bytes.now) }
@@ -59,7 +62,10 @@ fn requests_of<const K: usize>(alloc: Global, bytes: &[u8]) -> Result<Vec<PointR
 }
 
 /// The script that the bytes write.
-pub fn read_points<const K: usize>(alloc: Global, bytes: &[u8]) -> Result<PointScript<K>, ScriptFault>
+pub fn read_points<const K: usize>(
+    alloc: Global,
+    bytes: &[u8],
+) -> Result<PointScript<K>, ScriptFault>
     requires some { 1 ≤ K }
     requires few { K ≤ 4 }
     ensures read { IfOk result (λ s. IsScript bytes.now s) }

@@ -25,10 +25,11 @@ pub returns-clause-taken : goal.returns-clause-taken
 returns-clause-taken g c = λ ms.
     let old = c.args.self.now in
     elim c.match-said.branch [
-      in-Silent w ↦ taken-silent old.list.items old.number old.client c.args.said ms w.in-Silent.is ∙ ap (following ms) (sym w.self-is)
+      | in-Silent w ↦ taken-silent old.list.items old.number old.client c.args.said ms w.in-Silent.is ∙ ap (following ms) (sym w.self-is)
       | in-Speaks w ↦ taken-speaks old.list.items old.number old.client w.in-Speaks.client c.args.said ms w.in-Speaks.is ∙ ap (following ms) (sym w.self-is)
       | in-Asks+in_ok-add-in-Asks w ↦
-        taken-asks old.list.items w.add.new.self.list.items old.number old.client w.in-Asks.request c.args.said ms w.in-Asks.is w.in_ok-add-in-Asks.ensures.added
-        ∙ ap (λ n. so_far w.add.new.self.list.items (asked (n + 1) old.client ms)) (sym w.add.ensures.number)
-        ∙ ap (λ n. so_far w.add.new.self.list.items (asked (w.add.new.self.number + 1) n ms)) (sym w.add.ensures.client)
-        ∙ ap (following ms) (sym w.self-is) ]
+          taken-asks old.list.items w.add.new.self.list.items old.number old.client w.in-Asks.request c.args.said ms w.in-Asks.is w.in_ok-add-in-Asks.ensures.added
+          ∙ ap (λ n. so_far w.add.new.self.list.items (asked (n + 1) old.client ms)) (sym w.add.ensures.number)
+          ∙ ap (λ n. so_far w.add.new.self.list.items (asked (w.add.new.self.number + 1) n ms)) (sym w.add.ensures.client)
+          ∙ ap (following ms) (sym w.self-is)
+    ]

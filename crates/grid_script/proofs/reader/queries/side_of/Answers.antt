@@ -15,6 +15,6 @@ returns-then-more c =
     let rest = pieces_left 46 three.2 three.1.now in
     let more : 0 < length rest = subst (λ ps. 0 < length ps) (sym (left-more 46 three.2 three.1.now c.if-more.true)) (pieces-some 46 three.1.now) in
     sym (side-long word one.0.now two.0.now three.0.now (pieces_left 46 one.2 one.1.now) (pieces_left 46 two.2 two.1.now) rest other c.first_piece-more.ensures.pieces
-        (left-more 46 one.2 one.1.now c.if-not-more.false ∙ c.first_piece-more-2.ensures.pieces)
-        (left-more 46 two.2 two.1.now c.if-not-more-2.false ∙ c.first_piece-more-3.ensures.pieces)
-        more)
+    (left-more 46 one.2 one.1.now c.if-not-more.false ∙ c.first_piece-more-2.ensures.pieces)
+    (left-more 46 two.2 two.1.now c.if-not-more-2.false ∙ c.first_piece-more-3.ensures.pieces)
+    more)

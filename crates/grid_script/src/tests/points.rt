@@ -1,7 +1,7 @@
-//! Worked lines, right and wrong, and printed lines.
+//! Scripts of puts and gets, and their replies.
 
-use super::*;
-use grid_types::{Answer, Data, Key, Record, Refusal, PointReply, PointRequest};
+use crate::*;
+use grid_types::{Answer, Data, Key, PointReply, PointRequest, Record, Refusal};
 
 /// How many requests were read, or the number of the faulty line.
 fn told(outcome: Result<PointScript<2>, ScriptFault>) -> Result<usize, u64> {
