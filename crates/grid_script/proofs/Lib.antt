@@ -1,10 +1,9 @@
 pub mod AllOf
 pub mod Askings
 pub mod KeyPrints
-pub mod KeyTexts
 pub mod LinesOf
 pub mod NumberTexts
 pub mod Partings
 pub mod Pieces
-pub mod Readings
 pub mod Sides
+pub mod Untaken

@@ -8,6 +8,7 @@ use lib.Pointwise.{bytes_decides}
 use Rattle.grid_types.proofs.Numbers.{first, second, both}
 use Rattle.grid_model.specs.Script.{is_text, value, number_of}
 use Rattle.grid_model.specs.Scales.{top}
+use Rattle.std.specs.Prelude.{Result, Ok, Err}
 
 abbrev read_on : ℕ → List ℕ → ℕ
 read_on n w = fold (λ n b. n * 10 + (b - 48)) n w
@@ -36,3 +37,7 @@ number-none word h = by (is_text (decimal (value word)) word && nat_le (value wo
         let small : value word ≤ top = leb-true (value word) top (second (is_text (decimal (value word)) word) (nat_le (value word) top) e) in
         absurd (h (value word) (omega (arith, small)) (written (first (is_text (decimal (value word)) word) (nat_le (value word) top) e)))
     by false e = refl
+
+-- a result is not both
+pub ok_or_err : {A E : Type 0} (r : Result A E) (x : A) (e : E) → r ≡ Ok x → r ≡ Err e → ⊥
+ok_or_err r x e is not = cc

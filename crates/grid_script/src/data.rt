@@ -1,16 +1,12 @@
 //! Data, as scripts write it.
-ghost use Rattle.std.specs.Prelude.{◌≡◌, ℕ, List, Some, None, IfSome, IfNone};
+ghost use Rattle.std.specs.Prelude.{◌≡◌};
 ghost use Rattle.grid_model.specs.Script.{data_of};
-ghost use Rattle.grid_model.specs.PointScript.{IsData};
 
 use grid_types::Data;
 
 /// The data that a field writes: two digits for each byte, or a dash for no bytes.
 pub fn data_of(field: &[u8]) -> Option<Data>
-    ensures found { IfSome result (λ d. IsData field.now d) }
-    ensures none { IfNone result ((bytes : List ℕ) → IsData field.now bytes → ⊥) }
-    ensures value { IfSome result (λ d. data_of field.now ≡ Some d) }
-    ensures nothing { IfNone result (data_of field.now ≡ None) }
+    ensures { result ≡ data_of field.now }
 {
     if field == b"-".as_slice() {
         return Data::new(b"");

@@ -4,8 +4,6 @@
 mod data;
 mod lines;
 mod number;
-mod point_fields;
-mod point_request;
 mod point_script;
 mod point_text;
 mod printer;

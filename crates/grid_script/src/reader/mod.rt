@@ -5,7 +5,7 @@ ghost use Rattle.grid_script.specs.Reading.{meant, so_far};
 ghost use Rattle.grid_script.specs.declared.script.ScriptFault.TheVariants as fault;
 
 mod keys;
-mod meanings;
+pub mod meanings;
 mod pieces;
 mod queries;
 mod requests;

@@ -6,7 +6,7 @@ use Rattle.std.proofs.lemmas.Fmt.{parse-decimal, IsAscii-decimal}
 use Rattle.std.proofs.lemmas.Bool.{false≢true}
 use Rattle.std.proofs.lemmas.Bool.Decides.{Decides-eqb}
 use Rattle.std.proofs.lemmas.Slice.Eq.{slice_eq-Decides}
-use Rattle.grid_script.proofs.Readings.{ok_or_err}
+use Rattle.grid_script.proofs.NumberTexts.{ok_or_err}
 use Rattle.grid_script.proofs.NumberTexts.{number-found, number-none}
 use Rattle.grid_script.proofs.number.number_of.Goals as goal
 
