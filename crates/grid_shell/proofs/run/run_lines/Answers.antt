@@ -3,7 +3,7 @@ use Rattle.disk_trait.specs.Streams.{Adds}
 use Rattle.grid_types.specs.declared.point.PointRequest.{PointRequest}
 use Rattle.grid_model.specs.PointScript.{IsScript, IsFault}
 use Rattle.grid_script.specs.declared.script.ScriptFault.TheVariants as fault
-use Rattle.grid_script.proofs.Readings.{IsScript-sound}
+use Rattle.grid_script.proofs.Untaken.{script-sound}
 use Rattle.grid_shell.specs.Endings.{status_of, fault_end}
 use Rattle.grid_shell.specs.Runs.{printed, IsAnswered}
 use Rattle.grid_shell.proofs.Errors.{error_of}
@@ -27,7 +27,7 @@ returns-clause-script g c = λ ts n e.
 
 pub returns-clause-answered : goal.returns-clause-answered
 returns-clause-answered g c = λ h ts to at requests s.
-    inl (c.of_fault.ensures ∙ memory_of_end c.in-Err.fault (λ n line. IsScript-sound (g.S.Source.left c.args.input.now) requests n s (returns-clause-script g c ts n (c.of_fault.ensures ∙ ap fault_end line))))
+    inl (c.of_fault.ensures ∙ memory_of_end c.in-Err.fault (λ n line. script-sound (g.S.Source.left c.args.input.now) requests n s (returns-clause-script g c ts n (c.of_fault.ensures ∙ ap fault_end line))))
 
 pub returns-in-Ok-read_points-clause-front : goal.returns-in-Ok-read_points-clause-front
 returns-in-Ok-read_points-clause-front g c = λ h ts to at requests s.
