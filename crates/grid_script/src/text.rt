@@ -10,7 +10,7 @@ use itoa::Buffer;
 /// Where text is gathered before it is written.
 pub type Text = ArrayVec<u8, 4096>;
 
-/// As many bytes as are enough for any line.
+/// As many bytes as are enough for the line of a put or a get, of a client or of the front.
 pub const LINE: usize = 128;
 
 pub fn print_bytes(bytes: &[u8], out: &mut Text)
