@@ -35,7 +35,7 @@ abbrev NoneBad : {K : ℕ} → List (Meaning K) → Type 0
 NoneBad ms = (i : ℕ) → slice_get ms i ≢ Some Bad
 
 -- what line i asks, where a client spoke before the first
-abbrev said : {K : ℕ} → ℕ → List (Meaning K) → ℕ → Option (Line K)
+abbrev pub said : {K : ℕ} → ℕ → List (Meaning K) → ℕ → Option (Line K)
 said client ms i = option_and_then (line_of (fold speaker client (take i ms))) (slice_get ms i)
 
 one-more : (i : ℕ) → i + 1 ≡ suc i

@@ -1,4 +1,9 @@
-pub mod KeyTexts
+pub mod AllOf
+pub mod Askings
+pub mod KeyPrints
 pub mod LinesOf
+pub mod NumberTexts
 pub mod Partings
-pub mod Readings
+pub mod Pieces
+pub mod Sides
+pub mod Untaken

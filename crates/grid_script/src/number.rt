@@ -1,5 +1,6 @@
 //! Numbers in decimal.
 ghost use Rattle.std.specs.Prelude.{◌≡◌, ◌<◌, ◌^◌, ℕ, decimal, IfSome, IfNone};
+ghost use Rattle.grid_model.specs.Script.{number_of};
 
 use itoa::Buffer;
 
@@ -7,6 +8,7 @@ use itoa::Buffer;
 pub fn number_of(text: &[u8]) -> Option<u64>
     ensures found { IfSome result (λ n. text.now ≡ decimal n) }
     ensures none { IfNone result ((n : ℕ) → n < 2 ^ 64 → text.now ≡ decimal n → ⊥) }
+    ensures value { result ≡ number_of text.now }
 {
     let Ok(digits) = str::from_utf8(text) else {
         return None;

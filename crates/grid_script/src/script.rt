@@ -1,101 +1,57 @@
-//! Scripts: a request for each line.
-ghost use Rattle.std.specs.Prelude.{◌≡◌, ◌<◌, ◌≤◌, ◌↔◌, ℕ, List, length, vec_len, IsTrue, IfOk, IsErrOf};
-ghost use Rattle.grid_types.specs.declared.point.PointRequest.{PointRequest};
-ghost use Rattle.grid_model.specs.Script.{lines_of, longest};
-ghost use Rattle.grid_model.specs.PointScript.{AskAll, IsScript, FirstFault, IsFault};
-ghost use Rattle.grid_script.specs.declared.script.ScriptFault.TheVariants as fault;
+//! Scripts, and why a text is none.
+ghost use Rattle.std.specs.Prelude.{◌≡◌, ◌<◌, ◌↔◌, length, nat_lt, IsTrue};
+ghost use Rattle.grid_model.specs.Script.{longest};
 
-use crate::lines::first_line;
-use crate::request::request_of;
-use grid_types::PointRequest;
-use std::alloc::Global;
+use grid_types::Line;
 use std::marker::Model;
 
 /// The most bytes that a script has.
 const LONGEST: usize = 16_777_216;
 
-/// Why a text is no script: its first line that asks nothing (0: it has too many bytes), or want of memory.
+/// Why a text is no script: its first line that is nothing of the grammar (0: it has too many bytes), or want of memory.
 #[derive(Clone, Copy, Debug, PartialEq, Eq)]
 pub enum ScriptFault {
-    /// The first line that asks nothing, counted from 1; 0 where the text has too many bytes.
+    /// The first line that is nothing of the grammar, counted from 1; 0 where the text has too many bytes.
     Line(u64),
     /// There was no memory for the list.
     NoMemory,
 }
 
-/// The requests of a script, in order.
+/// The lines of a script that ask something, in order.
 #[derive(Drop)]
 pub struct Script<const K: usize> {
-    list: Vec<PointRequest<K>>,
+    list: Vec<Line<K>>,
 }
 
 impl<const K: usize> Model for Script<K> {
     ghost use Rattle.std.specs.Prelude.{List};
-    ghost use Rattle.grid_types.specs.declared.point.PointRequest.{PointRequest};
+    ghost use Rattle.grid_types.specs.declared.request.Line.{Line};
 
-    ghost Value = { List (PointRequest K) };
+    ghost Value = { List (Line K) };
 
     ghost view = { λ s. s.list.items };
 }
 
 impl<const K: usize> Script<K> {
-    pub fn requests(&self) -> &[PointRequest<K>]
+    /// The script of these lines.
+    pub fn of(list: Vec<Line<K>>) -> Script<K>
+        ensures { result ≡ list.entry.items }
+    {
+        Script { list }
+    }
+
+    pub fn lines(&self) -> &[Line<K>]
         ensures { result.now ≡ self.now }
     {
         self.list.as_slice()
     }
 }
 
+/// Whether a text has more bytes than any script.
 #[tactic(auto, unfolding(grid_model::specs::Script::longest))]
-fn is_too_long(bytes: &[u8]) -> bool
-    ensures { IsTrue result ↔ (longest < length bytes.now) }
+pub fn is_too_long(bytes: &[u8]) -> bool
+    ensures long { IsTrue result ↔ (longest < length bytes.now) }
+    ensures test { result ≡ nat_lt longest (length bytes.now) }
 {
     LONGEST < bytes.len()
 }
-
-/// The requests of all lines, unless one asks nothing.
-fn requests_of<const K: usize>(alloc: Global, bytes: &[u8]) -> Result<Vec<PointRequest<K>>, ScriptFault>
-    requires { 1 ≤ K }
-    ensures read { IfOk result (λ v. AskAll (lines_of bytes.now) v.items) }
-    ensures count { IfOk result (λ v. vec_len v ≤ length bytes.now) }
-    ensures fault { (n : ℕ) → IsErrOf result (fault.Line n) → FirstFault K bytes.now n }
-{
-    let mut list = Vec::new(alloc);
-    let mut rest = bytes;
-    while !rest.is_empty() {
-        let (line, after) = first_line(rest);
-        let Some(request) = request_of(line) else {
-            return Err(ScriptFault::Line(list.len() as u64 + 1));
-        };
-        match list.push(request) {
-            Ok(()) => {}
-            Err(_) => return Err(ScriptFault::NoMemory),
-        }
-        rest = after;
-    }
-    Ok(list)
-}
-
-/// The script that the bytes write.
-pub fn read_script<const K: usize>(alloc: Global, bytes: &[u8]) -> Result<Script<K>, ScriptFault>
-    requires some { 1 ≤ K }
-    requires few { K ≤ 4 }
-    ensures read { IfOk result (λ s. IsScript bytes.now s) }
-    ensures only { IfOk result (λ s. (requests : List (PointRequest K)) → IsScript bytes.now requests → s ≡ requests) }
-    ensures count { IfOk result (λ s. length s ≤ length bytes.now) }
-    ensures fault { (n : ℕ) → IsErrOf result (fault.Line n) → IsFault K bytes.now n }
-{
-    if is_too_long(bytes) {
-        return Err(ScriptFault::Line(0));
-    }
-    match requests_of(alloc, bytes) {
-        Ok(list) => Ok(Script { list }),
-        Err(fault) => Err(fault),
-    }
-}
-
-/// The law of scripts: a text is the script of one list of requests at most, and a script has no fault.
-pub fn script_law<const K: usize>()
-    ensures one { (bytes : List ℕ) (requests others : List (PointRequest K)) → IsScript bytes requests → IsScript bytes others → requests ≡ others }
-    ensures sound { (bytes : List ℕ) (requests : List (PointRequest K)) (n : ℕ) → IsScript bytes requests → IsFault K bytes n → ⊥ }
-{}

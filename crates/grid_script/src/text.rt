@@ -1,20 +1,19 @@
-//! Replies as text.
+//! The parts of a printed line.
 ghost use Rattle.std.specs.Prelude.{◌≡◌, ◌≤◌, ◌+◌, ◌++◌, length, decimal, codes};
 ghost use Rattle.arrayvec.specs.ArrayVec.{array_vec_len};
 ghost use Rattle.grid_model.specs.Text.{hex_text, numbered, put_text, got_text, refusal_text, front_line};
-ghost use Rattle.grid_model.specs.PointText.{reply_text, reply_line};
 
 use arrayvec::ArrayVec;
-use grid_types::{Data, Refusal, PointReply};
+use grid_types::{Data, Refusal};
 use itoa::Buffer;
 
 /// Where text is gathered before it is written.
 pub type Text = ArrayVec<u8, 4096>;
 
-/// As many bytes as are enough for any line.
+/// As many bytes as are enough for the line of a put or a get, of a client or of the front.
 pub const LINE: usize = 128;
 
-fn print_bytes(bytes: &[u8], out: &mut Text)
+pub fn print_bytes(bytes: &[u8], out: &mut Text)
     requires { array_vec_len out.old + length bytes.now ≤ 4096 }
     ensures items { out.new.items ≡ out.old.items ++ bytes.now }
     ensures len { array_vec_len out.new ≡ array_vec_len out.old + length bytes.now }
@@ -26,7 +25,7 @@ fn print_bytes(bytes: &[u8], out: &mut Text)
 }
 
 /// A word and a number, which has 20 digits at most.
-fn print_numbered(word: &[u8], n: u64, out: &mut Text)
+pub fn print_numbered(word: &[u8], n: u64, out: &mut Text)
     requires { array_vec_len out.old + length word.now + 20 ≤ 4096 }
     ensures items { out.new.items ≡ out.old.items ++ numbered word.now n }
     ensures len { array_vec_len out.new ≤ array_vec_len out.old + length word.now + 20 }
@@ -37,7 +36,7 @@ fn print_numbered(word: &[u8], n: u64, out: &mut Text)
 }
 
 /// Data as hexadecimal digits, or as a dash where there is none.
-fn print_data(value: &Data, out: &mut Text)
+pub fn print_data(value: &Data, out: &mut Text)
     requires { array_vec_len out.old + 80 ≤ 4096 }
     ensures items { out.new.items ≡ out.old.items ++ hex_text value.now }
     ensures len { array_vec_len out.new ≤ array_vec_len out.old + 80 }
@@ -56,7 +55,7 @@ fn print_data(value: &Data, out: &mut Text)
 }
 
 /// What a put found.
-fn print_put(value: &Option<Data>, out: &mut Text)
+pub fn print_put(value: &Option<Data>, out: &mut Text)
     requires { array_vec_len out.old + 85 ≤ 4096 }
     ensures items { out.new.items ≡ out.old.items ++ put_text value.now }
     ensures len { array_vec_len out.new ≤ array_vec_len out.old + 85 }
@@ -71,7 +70,7 @@ fn print_put(value: &Option<Data>, out: &mut Text)
 }
 
 /// What a get found.
-fn print_got(value: &Option<Data>, out: &mut Text)
+pub fn print_got(value: &Option<Data>, out: &mut Text)
     requires { array_vec_len out.old + 85 ≤ 4096 }
     ensures items { out.new.items ≡ out.old.items ++ got_text value.now }
     ensures len { array_vec_len out.new ≤ array_vec_len out.old + 85 }
@@ -86,7 +85,7 @@ fn print_got(value: &Option<Data>, out: &mut Text)
 }
 
 /// A word and a number, and another word and number.
-fn print_pair(first: &[u8], n: u64, second: &[u8], m: u64, out: &mut Text)
+pub fn print_pair(first: &[u8], n: u64, second: &[u8], m: u64, out: &mut Text)
     requires { array_vec_len out.old + length first.now + length second.now + 40 ≤ 4096 }
     ensures items { out.new.items ≡ out.old.items ++ (numbered first.now n ++ numbered second.now m) }
     ensures len { array_vec_len out.new ≤ array_vec_len out.old + length first.now + length second.now + 40 }
@@ -96,7 +95,7 @@ fn print_pair(first: &[u8], n: u64, second: &[u8], m: u64, out: &mut Text)
 }
 
 /// Why a line was refused. Those refusals that no line meets print nothing.
-fn print_refusal(refusal: &Refusal, out: &mut Text)
+pub fn print_refusal(refusal: &Refusal, out: &mut Text)
     requires { array_vec_len out.old + 80 ≤ 4096 }
     ensures items { out.new.items ≡ out.old.items ++ refusal_text refusal.now }
     ensures len { array_vec_len out.new ≤ array_vec_len out.old + 80 }
@@ -132,36 +131,6 @@ fn print_refusal(refusal: &Refusal, out: &mut Text)
         | Refusal::BadQuery
         | Refusal::Arity { .. } => {}
     }
-}
-
-/// A reply without the end of its line.
-fn print_answer(reply: &PointReply, out: &mut Text)
-    requires { array_vec_len out.old + 127 ≤ 4096 }
-    ensures items { out.new.items ≡ out.old.items ++ reply_text reply.now }
-    ensures len { array_vec_len out.new ≤ array_vec_len out.old + 127 }
-{
-    match reply {
-        PointReply::Put(answer) => {
-            print_numbered(b"@", answer.at, out);
-            print_put(&answer.value, out);
-        }
-        PointReply::Got(answer) => {
-            print_numbered(b"@", answer.at, out);
-            print_got(&answer.value, out);
-        }
-        PointReply::Refused(why) => print_refusal(why, out),
-    }
-}
-
-/// Adds the line of a reply. `LINE` bytes are enough for any.
-#[tactic(auto, unfolding(grid_model::specs::PointText::reply_line))]
-pub fn print_reply(reply: &PointReply, out: &mut Text)
-    requires room { array_vec_len out.old + 128 ≤ 4096 }
-    ensures line { out.new.items ≡ out.old.items ++ reply_line reply.now }
-    ensures len { array_vec_len out.new ≤ array_vec_len out.old + 128 }
-{
-    print_answer(reply, out);
-    print_bytes(b"\n", out);
 }
 
 /// Adds the line with the front.

@@ -19,7 +19,7 @@ use crate::printing::print_all;
 use crate::session::answer_all;
 use crate::telling::tell;
 use disk_trait::{Bay, BayFailed, Disk, Sink, SinkFailed, Source, Steps};
-use grid_script::read_script;
+use grid_script::read_points;
 use grid_types::{PointRequest, Words};
 use std::alloc::{AllocError, Global};
 use std::marker::Brand;
@@ -107,7 +107,7 @@ fn run_lines<D: Disk, S: Source, O: Sink>(
         Err(InputFault::Source) => return Ending::Device,
         Err(InputFault::NoMemory) => return Ending::Memory,
     };
-    match read_script::<ATTRIBUTES>(alloc, bytes.as_slice()) {
+    match read_points::<ATTRIBUTES>(alloc, bytes.as_slice()) {
         Ok(script) => {
             answer_lines::<D, O, Brand>(alloc, lone, script.requests(), out, Blank::new(1))
         }

@@ -1,0 +1,68 @@
+//! What the words of a line ask.
+ghost use Rattle.std.specs.Prelude.{◌≡◌, ◌≤◌};
+ghost use Rattle.grid_model.specs.Script.{key_of, data_of, put_of, alone_of, about_of};
+
+use crate::data::data_of;
+use crate::reader::keys::key_of;
+use crate::reader::queries::query_of;
+use grid_types::{Record, Request};
+
+/// What a command of one word asks.
+pub fn alone_of<const K: usize>(word: &[u8]) -> Option<Request<K>>
+    requires { K ≤ 4 }
+    ensures { result ≡ alone_of K word.now }
+{
+    if word == b"stat".as_slice() {
+        return Some(Request::Stat);
+    }
+    if word == b"checkpoint".as_slice() {
+        return Some(Request::Checkpoint);
+    }
+    None
+}
+
+/// What a command with one argument asks.
+pub fn about_of<const K: usize>(word: &[u8], argument: &[u8]) -> Option<Request<K>>
+    requires { K ≤ 4 }
+    ensures { result ≡ about_of K word.now argument.now }
+{
+    if word == b"get".as_slice() {
+        let Some(key) = key_of(argument) else {
+            return None;
+        };
+        return Some(Request::Get(key));
+    }
+    if word == b"remove".as_slice() {
+        let Some(key) = key_of(argument) else {
+            return None;
+        };
+        return Some(Request::Remove(key));
+    }
+    if word == b"list".as_slice() {
+        let Some(query) = query_of(argument) else {
+            return None;
+        };
+        return Some(Request::List(query));
+    }
+    if word == b"count".as_slice() {
+        let Some(query) = query_of(argument) else {
+            return None;
+        };
+        return Some(Request::Count(query));
+    }
+    None
+}
+
+/// The put of a key and data.
+pub fn put_of<const K: usize>(key: &[u8], digits: &[u8]) -> Option<Request<K>>
+    requires { K ≤ 4 }
+    ensures { result ≡ put_of (key_of K key.now) (data_of digits.now) }
+{
+    let Some(key) = key_of(key) else {
+        return None;
+    };
+    let Some(value) = data_of(digits) else {
+        return None;
+    };
+    Some(Request::Put(Record { key, value }))
+}

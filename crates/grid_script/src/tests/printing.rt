@@ -1,0 +1,94 @@
+//! Printed replies.
+
+use crate::*;
+use grid_types::{Answer, Data, Key, Record, Refusal, Reply, Rows, Stat};
+use std::alloc::{AllocError, Global};
+
+/// All parts of a reply, one behind the other.
+fn printed(alloc: Global, reply: &Reply<2>) -> Result<Vec<u8>, AllocError> {
+    let mut text = Vec::new(alloc);
+    let mut out = Text::new();
+    for i in 0..5 {
+        if print_part(reply, i, &mut out) {
+            text.extend_from_slice(out.as_slice())?;
+        }
+    }
+    Ok(text)
+}
+
+/// Two records.
+fn rows(alloc: Global) -> Result<Rows<2>, AllocError> {
+    let mut rows = Rows::new(alloc);
+    rows.push(Record {
+        key: Key { at: [1, 2] },
+        value: Data::new(&[10, 255]).unwrap_or_default(),
+    })?;
+    rows.push(Record {
+        key: Key { at: [u64::MAX, 0] },
+        value: Data::default(),
+    })?;
+    Ok(rows)
+}
+
+#[test]
+fn prints_replies(rt: HostRuntime) {
+    let listed = rows(rt.alloc()).expect(&rt, "memory");
+    for (reply, want) in [
+        (Reply::Put(Answer { at: 0, value: None }), "@0 new\n"),
+        (
+            Reply::Put(Answer {
+                at: u64::MAX,
+                value: Data::new(&[10, 255]),
+            }),
+            "@18446744073709551615 old 0aff\n",
+        ),
+        (Reply::Removed(Answer { at: 3, value: None }), "@3 none\n"),
+        (
+            Reply::Removed(Answer {
+                at: 4,
+                value: Data::new(&[0]),
+            }),
+            "@4 gone 00\n",
+        ),
+        (Reply::Got(Answer { at: 3, value: None }), "@3 none\n"),
+        (
+            Reply::Got(Answer {
+                at: 3,
+                value: Some(Data::default()),
+            }),
+            "@3 = -\n",
+        ),
+        (
+            Reply::Listed(Answer {
+                at: 9,
+                value: listed,
+            }),
+            "@9 rows 2\n1,2 0aff\n18446744073709551615,0 -\n",
+        ),
+        (Reply::Counted(Answer { at: 9, value: 12 }), "@9 count 12\n"),
+        (
+            Reply::Stood(Answer {
+                at: 7,
+                value: Stat {
+                    records: 1,
+                    cells: 2,
+                    buckets: 3,
+                    free: 4,
+                },
+            }),
+            "@7 stat records 1 cells 2 buckets 3 free 4\n",
+        ),
+        (Reply::Rooted(5), "@5 rooted\n"),
+        (
+            Reply::Refused(Refusal::NoCut {
+                cells: 6,
+                boundaries: 8,
+            }),
+            "nocut cells 6 boundaries 8\n",
+        ),
+        (Reply::Refused(Refusal::Worn { count: 5 }), "worn 5\n"),
+    ] {
+        let text = printed(rt.alloc(), &reply).expect(&rt, "memory");
+        assert_eq!(rt; text.as_slice(), want.as_bytes());
+    }
+}
