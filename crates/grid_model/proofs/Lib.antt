@@ -1,10 +1,5 @@
 pub mod TableLaws
 pub mod AnswerLaws
-pub mod ScaleLaws
-pub mod Members
-pub mod Choosing
-pub mod Places
-pub mod CellLaws
 pub mod Listed
 pub mod Found
 pub mod Counts
