@@ -54,18 +54,6 @@ fn judges_scripts(rt: HostRuntime) {
         ("STAT\n", Err(1)),
         ("get \u{e9},7\n", Err(1)),
         ("\u{ff}\n", Err(1)),
-    ] {
-        assert_eq!(rt;
-            told(read_script(rt.alloc(), text.as_bytes())),
-            want,
-            "{text}"
-        );
-    }
-}
-
-#[test]
-fn judges_more_scripts(rt: HostRuntime) {
-    for (text, want) in [
         ("put 3,7\n", Err(1)),
         ("put 3,7 a\n", Err(1)),
         ("put 3,7 abc\n", Err(1)),
