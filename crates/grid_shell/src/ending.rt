@@ -3,7 +3,7 @@ ghost use Rattle.std.specs.Prelude.{◌≡◌, max};
 ghost use Rattle.grid_shell.specs.Endings.{status_of, with_fault_of, refusal_end, fault_end, line_end, worst_of, IsLineEnd, HasBegun};
 
 use grid_script::ScriptFault;
-use grid_types::{Refusal, PointReply};
+use grid_types::{PointReply, Refusal};
 
 /// How a run ends. Each end has a status of its own, and later ones have greater statuses.
 #[derive(Clone, Copy, Debug, PartialEq, Eq)]

@@ -8,7 +8,7 @@ ghost use Rattle.grid_shell.specs.Standing.{StandsAt, IsDiskFault};
 
 use crate::lone::{Lone, WORN};
 use disk_trait::{Disk, Steps};
-use grid_types::{Key, Record, Refusal, PointReply, PointRequest};
+use grid_types::{Key, PointReply, PointRequest, Record, Refusal};
 use std::sync::ledger::Ledger;
 
 /// A refusal as a reply. A fault of the disk is none.
