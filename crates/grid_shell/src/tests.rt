@@ -83,6 +83,20 @@ fn other_input_is_refused(rt: HostRuntime) -> Result<(), Fail> {
         told: b"grid: script line 2\n",
         status: 3,
     };
+    let other_command = Case {
+        words: &RUN,
+        script: b"# two lines\n\nget 1,2\nremove 1,2\n",
+        printed: NO_TEXT,
+        told: b"grid: script line 4\n",
+        status: 3,
+    };
+    let grammar_first = Case {
+        words: &RUN,
+        script: b"client 2\nget 1,2\nput 1,2\n",
+        printed: NO_TEXT,
+        told: b"grid: script line 3\n",
+        status: 3,
+    };
     let no_words = Case {
         words: &[],
         script: NO_TEXT,
@@ -92,6 +106,8 @@ fn other_input_is_refused(rt: HostRuntime) -> Result<(), Fail> {
     };
     assert!(rt; shows(&rt, &empty)?);
     assert!(rt; shows(&rt, &fault)?);
+    assert!(rt; shows(&rt, &other_command)?);
+    assert!(rt; shows(&rt, &grammar_first)?);
     assert!(rt; shows(&rt, &no_words)?);
     Ok(())
 }
