@@ -1,5 +1,5 @@
 -- How a run may end: for want of memory, by a count that rose, or answered.
-use Rattle.std.proofs.Common.{◌≡◌, ◌⊎◌, ◌∷◌, [], inl, inr, ℕ, refl, sym, ap, ◌∙◌, arith}
+use Rattle.std.proofs.Common.{◌≡◌, ◌⊎◌, ◌∷◌, [], inl, inr, ℕ, refl, sym, ap, subst, ◌∙◌, arith}
 use Rattle.std.specs.Prelude.{Result, Ok, Err, OnOk, OnErr}
 use Rattle.grid_script.specs.declared.script.ScriptFault.{ScriptFault}
 use Rattle.grid_script.specs.declared.script.ScriptFault.TheVariants as fault
@@ -12,6 +12,19 @@ pub outcome : {M F G A B : Type 0} → (F → G) → (A → B) → M ⊎ (F ⊎ 
 outcome f a (inl memory) = inl memory
 outcome f a (inr (inl fault)) = inr (inl (f fault))
 outcome f a (inr (inr answered)) = inr (inr (a answered))
+
+-- the same where want of memory is told in other words
+pub outcome_in : {M N F G A B : Type 0} → (M → N) → (F → G) → (A → B) → M ⊎ (F ⊎ A) → N ⊎ (G ⊎ B)
+outcome_in m f a (inl memory) = inl (m memory)
+outcome_in m f a (inr (inl fault)) = inr (inl (f fault))
+outcome_in m f a (inr (inr answered)) = inr (inr (a answered))
+
+-- the counts as they are told of other objects
+pub roses_of : (b i o : ℕ) {b' b'' i' i'' o' o'' : ℕ} → b' ≡ b'' → i' ≡ i'' → o' ≡ o'' → OneRose ((b, b') ∷ (i, i') ∷ (o, o') ∷ []) → OneRose ((b, b'') ∷ (i, i'') ∷ (o, o'') ∷ [])
+roses_of b i o {b'} {b''} {i'} {i''} {o'} {o''} p q r rose =
+    subst (λ x. OneRose ((b, x) ∷ (i, i'') ∷ (o, o'') ∷ [])) p
+    (subst (λ y. OneRose ((b, b') ∷ (i, y) ∷ (o, o'') ∷ [])) q
+    (subst (λ z. OneRose ((b, b') ∷ (i, i') ∷ (o, z) ∷ [])) r rose))
 
 -- one more count may have risen
 pub with_third : (a b c d : ℕ × ℕ) → OneRose (a ∷ b ∷ d ∷ []) → OneRose (a ∷ b ∷ c ∷ d ∷ [])
