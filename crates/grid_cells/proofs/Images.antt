@@ -22,7 +22,7 @@ lowest-lies s (b ∷ bs) (suc i) e p =
     counted b (slice_index (b ∷ bs) i) bs (at-least-first b bs i rest (omega (arith, p))) ∙ ap suc (lowest-lies b bs i rest (omega (arith, p)))
 
 -- the lowest key of a cell lies in the cell
-corner-lies : (scales : List (List ℕ)) (cell : List ℕ) → ((b : ℕ) → b < length scales → is_scale (scale_of scales b) ≡ true) → IsCell (dims scales) cell → cell_of scales (corner scales cell) ≡ cell
+pub corner-lies : (scales : List (List ℕ)) (cell : List ℕ) → ((b : ℕ) → b < length scales → is_scale (scale_of scales b) ≡ true) → IsCell (dims scales) cell → cell_of scales (corner scales cell) ≡ cell
 corner-lies [] [] h c = refl
 corner-lies [] (x ∷ cell) h c = absurd (omega (arith, c.count))
 corner-lies (s ∷ scales) [] h c = absurd (omega (arith, c.count))
@@ -32,13 +32,13 @@ corner-lies (s ∷ scales) (x ∷ cell) h c =
     λ i. first i ∷ rest i
 
 -- a corner has a number for each attribute
-corner-long : (scales : List (List ℕ)) (cell : List ℕ) → length cell ≡ length scales → length (corner scales cell) ≡ length scales
+pub corner-long : (scales : List (List ℕ)) (cell : List ℕ) → length cell ≡ length scales → length (corner scales cell) ≡ length scales
 corner-long [] cell e = refl
 corner-long (s ∷ scales) [] e = absurd (omega (arith, e))
 corner-long (s ∷ scales) (x ∷ cell) e = ap suc (corner-long scales cell (omega (arith, e)))
 
 -- the refined scales are scales
-refined-lawful : (scales : List (List ℕ)) (a v : ℕ) → IsRefinement scales a v → (b : ℕ) → b < length (after_refinement scales a v) → is_scale (scale_of (after_refinement scales a v) b) ≡ true
+pub refined-lawful : (scales : List (List ℕ)) (a v : ℕ) → IsRefinement scales a v → (b : ℕ) → b < length (after_refinement scales a v) → is_scale (scale_of (after_refinement scales a v) b) ≡ true
 refined-lawful scales a v r b p = by (cases_eq b a)
   where
     within : b < length scales
@@ -52,17 +52,20 @@ refined-lawful scales a v r b p = by (cases_eq b a)
     by (inr d) = ap is_scale (get_or-set_other scales a b (refined (scale_of scales a) v) [] d) ∙ r.scales_lawful b within
 
 module _ (scales : List (List ℕ)) (a v : ℕ) (cell : List ℕ) (r : IsRefinement scales a v) (c : IsCell (dims (after_refinement scales a v)) cell) where
-  key-long : length (corner (after_refinement scales a v) cell) ≡ length scales
+  -- the lowest key of a cell has a number for each attribute
+  pub key-long : length (corner (after_refinement scales a v) cell) ≡ length scales
   key-long =
       corner-long (after_refinement scales a v) cell (c.count ∙ length-map (after_refinement scales a v) intervals)
       ∙ length-set scales a (refined (scale_of scales a) v)
 
-  lowest-key : cell_of scales (corner (after_refinement scales a v) cell) ≡ image_of cell a (interval (scale_of scales a) v)
+  -- it lies in the image
+  pub lowest-key : cell_of scales (corner (after_refinement scales a v) cell) ≡ image_of cell a (interval (scale_of scales a) v)
   lowest-key =
       sym (old-cell scales (corner (after_refinement scales a v) cell) a v key-long r.attribute (r.scales_lawful a r.attribute) r.fresh)
       ∙ ap (λ x. image_of x a (interval (scale_of scales a) v)) (corner-lies (after_refinement scales a v) cell (refined-lawful scales a v r) c)
 
-  image-is-cell : IsCell (dims scales) (image_of cell a (interval (scale_of scales a) v))
+  -- the image is a cell
+  pub image-is-cell : IsCell (dims scales) (image_of cell a (interval (scale_of scales a) v))
   image-is-cell = subst (IsCell (dims scales)) lowest-key (key-has-cell scales (corner (after_refinement scales a v) cell) key-long)
 
 -- each cell lies in its image

@@ -1,8 +1,8 @@
 //! The laws of the definitions, as contracts of functions without code.
-ghost use Rattle.grid_cells.specs.Laws.{LieInImages};
+ghost use Rattle.grid_cells.specs.Laws.{LieInImages, NamesStay};
 
-/// The law of refinements: each cell of the refined directory lies in its image. So a bucket that has the keys of the
-/// image has the lowest key of the cell.
+/// The law of refinements: each cell of the refined directory lies in its image, and names the same box.
 pub fn refinement_law()
-    ensures { LieInImages }
+    ensures image { LieInImages }
+    ensures names { NamesStay }
 {}
