@@ -49,13 +49,13 @@ patched_more is more x j cells e lt =
     ])
 
 -- the number that was written stands at its offset
-written_there : (at x : ℕ) (old new : List ℕ) → new ≡ replaced at (bytes_of 4 x) old → at ≤ length old → x < 2 ^ 32 → number 4 (drop at new) ≡ x
+pub written_there : (at x : ℕ) (old new : List ℕ) → new ≡ replaced at (bytes_of 4 x) old → at ≤ length old → x < 2 ^ 32 → number 4 (drop at new) ≡ x
 written_there at x old new e le fit =
     let rest = drop (at + length (bytes_of 4 x)) old in
     ap (number 4) (ap (drop at) e ∙ drop_at (take at old) (bytes_of 4 x ++ rest) at (length-take-le at old le)) ∙ number-back 4 x rest (omega arith)
 
 -- the other bytes are as they were
-byte_kept : (at n k : ℕ) (bytes old new : List ℕ) → new ≡ replaced at bytes old → length bytes ≡ n → at + n ≤ length old → (k < at) ⊎ (at + n ≤ k) → slice_index new k ≡ slice_index old k
+pub byte_kept : (at n k : ℕ) (bytes old new : List ℕ) → new ≡ replaced at bytes old → length bytes ≡ n → at + n ≤ length old → (k < at) ⊎ (at + n ≤ k) → slice_index new k ≡ slice_index old k
 byte_kept at n k bytes old new e len le side =
     let front : length (take at old) ≡ at = length-take-le at old (omega arith) in
     let rest = drop (at + length bytes) old in
@@ -77,7 +77,7 @@ number_same i (suc n) xs ys same =
     rw (first, rest) refl
 
 -- another cell has the bucket that it had
-bucket_kept : (i j x : ℕ) (old new : List ℕ) → new ≡ replaced (96 + 4 * j) (bytes_of 4 x) old → 96 + 4 * j + 4 ≤ length old → i ≢ j → bucket_in i new ≡ bucket_in i old
+pub bucket_kept : (i j x : ℕ) (old new : List ℕ) → new ≡ replaced (96 + 4 * j) (bytes_of 4 x) old → 96 + 4 * j + 4 ≤ length old → i ≢ j → bucket_in i new ≡ bucket_in i old
 unfolding number
 bucket_kept i j x old new e le other =
     number_same 0 4 (drop (96 + 4 * i) new) (drop (96 + 4 * i) old) (λ k h.

@@ -2,6 +2,7 @@
 //! of its cells.
 #![tactic(auto)]
 
+mod boxes;
 mod cells;
 mod laws;
 mod parts;
@@ -9,6 +10,7 @@ mod patching;
 mod reading;
 mod writing;
 
+pub use boxes::{next_part, patch_box};
 pub use cells::{bucket_at, set_bucket};
 pub use laws::spelling_law;
 pub use parts::part_of;
@@ -16,5 +18,7 @@ pub use patching::patch;
 pub use reading::decode;
 pub use writing::encode;
 
+#[cfg(test)]
+mod box_tests;
 #[cfg(test)]
 mod tests;

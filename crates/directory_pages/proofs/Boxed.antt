@@ -1,0 +1,160 @@
+-- The patch of a box, one place after the other.
+use Rattle.std.proofs.Common.{◌≡◌, ◌<◌, ◌≤◌, ◌+◌, ◌*◌, ◌^◌, ◌/◌, ◌%◌, ◌≢◌, inl, inr, ℕ, List, length, get_or, slice_index, set, refl, sym, subst, ◌∙◌, arith}
+use Rattle.std.proofs.lemmas.Bool.{cases_lt}
+use Rattle.std.proofs.lemmas.Bool.Decides.{eqb_tells}
+use Rattle.std.proofs.lemmas.List.{length-set, get_or-set_same, get_or-set_other, same_lists, get_or_default}
+use Rattle.page_fields.specs.Fields.{bytes_of, replaced}
+use Rattle.page_fields.proofs.BytesOf.{length-bytes_of}
+use Rattle.grid_model.specs.Lists.{product}
+use Rattle.grid_model.specs.Cells.{place}
+use Rattle.grid_model.specs.ScaleLaws.{IsCell}
+use Rattle.grid_cells.specs.Boxes.{InBox}
+use Rattle.grid_cells.proofs.Products.{place-below}
+use Rattle.directory_pages.specs.Spelling.{Spells, bucket_in}
+use Rattle.directory_pages.specs.Boxes.{cells_on, HoldsCell, HasPlace, IsPatched, IsBeside, IsOutsideBox}
+use Rattle.directory_pages.proofs.Patches.{written_there, byte_kept, bucket_kept}
+
+-- what holds of each number below n and of n
+pub below_more : (P : ℕ → Type 0) (n i : ℕ) → (i < n → P i) → P n → i < n + 1 → P i
+below_more P n i front last lt = elim (cases_lt i n) [
+  | inl low ↦ front low
+  | inr high ↦
+      let same : n ≡ i = omega (arith, high, lt) in
+      subst P same last
+]
+
+-- the cell in a place lies in the box
+pub has_place : (ns lo hi cell : List ℕ) (at : ℕ) → IsCell ns cell → place ns cell ≡ at → InBox lo hi cell → HasPlace ns lo hi at
+has_place ns lo hi cell at h e b = record { cell = cell; is_cell = h; inside = b; place_is = e }
+
+-- the cell in a place does not
+pub no_place : (ns lo hi cell : List ℕ) (at : ℕ) → ((other : List ℕ) → IsCell ns other → place ns other ≡ at → other ≡ cell) → (InBox lo hi cell → ⊥) → HasPlace ns lo hi at → ⊥
+no_place ns lo hi cell at only out h = out (subst (InBox lo hi) (only h.cell h.is_cell h.place_is) h.inside)
+
+-- a cell of the box on a part has one of its places
+pub index_on : (ns cell : List ℕ) (part : ℕ) → IsCell ns cell → place ns cell / 1000 ≡ part → place ns cell % 1000 < cells_on ns part
+index_on ns cell part h e = omega (arith, place-below ns cell h, e)
+
+pub place_on_part : (ns lo hi cell : List ℕ) (part : ℕ) → IsCell ns cell → InBox lo hi cell → place ns cell / 1000 ≡ part → HasPlace ns lo hi (1000 * part + place ns cell % 1000)
+place_on_part ns lo hi cell part h b e = has_place ns lo hi cell (1000 * part + place ns cell % 1000) h (omega (arith, e)) b
+
+-- the part of a cell begins below the number of cells
+pub part_there : (ns lo hi : List ℕ) (part : ℕ) → HoldsCell ns lo hi part → 1000 * part < product ns
+part_there ns lo hi part h = omega (arith, place-below ns h.cell h.is_cell, h.on_part)
+
+-- the cells after the patch of the first n places of a part
+pub record PatchedBelow (ns lo hi : List ℕ) (part bucket n : ℕ) (cells after : List ℕ) : Type 0 where
+  pub count : length after ≡ length cells
+  pub inside : (i : ℕ) → i < n → HasPlace ns lo hi (1000 * part + i) → slice_index after i ≡ bucket
+  pub outside : (i : ℕ) → i < length cells → (i < n → HasPlace ns lo hi (1000 * part + i) → ⊥) → slice_index after i ≡ slice_index cells i
+
+-- the patch of no place changes nothing
+patched_none : (ns lo hi : List ℕ) (part x : ℕ) (cells after : List ℕ) → PatchedBelow ns lo hi part x 0 cells after → cells ≡ after
+patched_none ns lo hi part x cells after p =
+    same_lists cells after (sym p.count) (λ k d lt.
+    get_or_default cells k d 0 lt ∙ sym (p.outside k lt (λ no h. absurd (omega (arith, no)))) ∙ get_or_default after k 0 d (omega (arith, lt, p.count)))
+
+-- where the place of cell n has no cell of the box, its patch changes nothing
+patched_same : (ns lo hi : List ℕ) (part x n : ℕ) (cells after : List ℕ) → (HasPlace ns lo hi (1000 * part + n) → ⊥) → PatchedBelow ns lo hi part x (n + 1) cells after → PatchedBelow ns lo hi part x n cells after
+patched_same ns lo hi part x n cells after out p = record {
+  count = p.count;
+  inside = λ i lt. p.inside i (omega (arith, lt));
+  outside = λ i lt no. p.outside i lt (below_more (λ j. HasPlace ns lo hi (1000 * part + j) → ⊥) n i no out);
+}
+
+-- before the patch of cell n, it was as it had been
+patched_before : (ns lo hi : List ℕ) (part x n : ℕ) (cells after : List ℕ) → n < length cells → PatchedBelow ns lo hi part x (n + 1) cells after → PatchedBelow ns lo hi part x n cells (set after n (slice_index cells n))
+patched_before ns lo hi part x n cells after there p =
+    let v = slice_index cells n in
+    record {
+      count = length-set after n v ∙ p.count;
+      inside = λ i lt h.
+          let other : i ≢ n = omega (arith, lt) in
+          get_or-set_other after n i v 0 other ∙ p.inside i (omega (arith, lt)) h;
+      outside = λ i lt no. elim (eqb_tells n i) [
+        | inl e ↦ subst (λ (j : ℕ). slice_index (set after n v) j ≡ slice_index cells j) e.1 (get_or-set_same after n v 0 (omega (arith, there, p.count)))
+        | inr e ↦
+            let other : i ≢ n = λ same. e.1 (sym same) in
+            get_or-set_other after n i v 0 other ∙ p.outside i lt (λ few. no (omega (arith, few, e.1)))
+      ];
+    }
+
+-- and with the bucket it is what it is after the patch
+set_back : (after : List ℕ) (n v x : ℕ) → n < length after → slice_index after n ≡ x → set (set after n v) n x ≡ after
+set_back after n v x lt e =
+    let long : length (set (set after n v) n x) ≡ length after = length-set (set after n v) n x ∙ length-set after n v in
+    same_lists (set (set after n v) n x) after long (λ k d h. elim (eqb_tells n k) [
+      | inl p ↦
+          let there : get_or (set (set after n v) n x) n d ≡ x = get_or-set_same (set after n v) n x d (omega (arith, lt, length-set after n v)) in
+          subst (λ (j : ℕ). get_or (set (set after n v) n x) j d ≡ get_or after j d) p.1 (there ∙ sym e ∙ get_or_default after n 0 d lt)
+      | inr p ↦
+          let other : k ≢ n = λ same. p.1 (sym same) in
+          get_or-set_other (set after n v) n k x d other ∙ get_or-set_other after n k v d other
+    ])
+
+-- a part's page after the patch of its first n places
+pub record PagePatched (ns lo hi : List ℕ) (part bucket n : ℕ) (old new : List ℕ) : Type 0 where
+  pub long : length new ≡ 4096
+  pub named : (i : ℕ) → i < n → HasPlace ns lo hi (1000 * part + i) → bucket_in i new ≡ bucket
+  pub others : (k : ℕ) → ((i : ℕ) → i < n → HasPlace ns lo hi (1000 * part + i) → IsBeside i k) → slice_index new k ≡ slice_index old k
+  pub cells : (cells after : List ℕ) → Spells part old cells → length cells ≡ cells_on ns part → PatchedBelow ns lo hi part bucket n cells after → Spells part new after
+
+pub page_unpatched : (ns lo hi : List ℕ) (part x : ℕ) (page : List ℕ) → length page ≡ 4096 → PagePatched ns lo hi part x 0 page page
+page_unpatched ns lo hi part x page long = record {
+  long = long;
+  named = λ i no h. absurd (omega (arith, no));
+  others = λ k out. refl;
+  cells = λ cells after s e p. subst (Spells part page) (patched_none ns lo hi part x cells after p) s;
+}
+
+-- a place with no cell of the box
+pub place_passed : (ns lo hi : List ℕ) (part x n : ℕ) (old new : List ℕ) → (HasPlace ns lo hi (1000 * part + n) → ⊥) → PagePatched ns lo hi part x n old new → PagePatched ns lo hi part x (n + 1) old new
+place_passed ns lo hi part x n old new out p = record {
+  long = p.long;
+  named = λ i. below_more (λ j. HasPlace ns lo hi (1000 * part + j) → bucket_in j new ≡ x) n i (p.named i) (λ h. absurd (out h));
+  others = λ k beside. p.others k (λ i lt. beside i (omega (arith, lt)));
+  cells = λ cells after s e q. p.cells cells after s e (patched_same ns lo hi part x n cells after out q);
+}
+
+-- a place with a cell of the box
+pub place_patched : (ns lo hi : List ℕ) (part x n : ℕ) (first old new : List ℕ) → HasPlace ns lo hi (1000 * part + n) → n < cells_on ns part → x < 2 ^ 32 → new ≡ replaced (96 + 4 * n) (bytes_of 4 x) old → length new ≡ 4096
+    → ((cells : List ℕ) → Spells part old cells → n < length cells → Spells part new (set cells n x)) → PagePatched ns lo hi part x n first old → PagePatched ns lo hi part x (n + 1) first new
+place_patched ns lo hi part x n first old new here lt fit e long spelled p =
+    let room : 96 + 4 * n + 4 ≤ length old = omega (arith, lt, p.long) in
+    record {
+      long = long;
+      named = λ i. below_more (λ j. HasPlace ns lo hi (1000 * part + j) → bucket_in j new ≡ x) n i
+          (λ low h.
+          let other : i ≢ n = omega (arith, low) in
+          bucket_kept i n x old new e room other ∙ p.named i low h)
+          (λ h. written_there (96 + 4 * n) x old new e (omega (arith, room)) fit);
+      others = λ k beside. byte_kept (96 + 4 * n) 4 k (bytes_of 4 x) old new e (length-bytes_of 4 x) room (beside n (omega arith) here) ∙ p.others k (λ i few. beside i (omega (arith, few)));
+      cells = λ cells after s count q.
+          let there : n < length cells = omega (arith, lt, count) in
+          let v = slice_index cells n in
+          let before = set after n v in
+          let was : Spells part old before = p.cells cells before s count (patched_before ns lo hi part x n cells after there q) in
+          let is : Spells part new (set before n x) = spelled before was (omega (arith, there, length-set after n v, q.count)) in
+          subst (Spells part new) (set_back after n v x (omega (arith, there, q.count)) (q.inside n (omega arith) here)) is;
+    }
+
+-- what each place of the part has given
+pub all_named : (ns lo hi : List ℕ) (part x n : ℕ) (old new : List ℕ) → cells_on ns part ≤ n → PagePatched ns lo hi part x n old new
+    → (cell : List ℕ) → IsCell ns cell → InBox lo hi cell → place ns cell / 1000 ≡ part → bucket_in (place ns cell % 1000) new ≡ x
+all_named ns lo hi part x n old new le p cell h b e = p.named (place ns cell % 1000) (omega (arith, le, index_on ns cell part h e)) (place_on_part ns lo hi cell part h b e)
+
+pub all_others : (ns lo hi : List ℕ) (part x n : ℕ) (old new : List ℕ) → n ≤ cells_on ns part → PagePatched ns lo hi part x n old new
+    → (k : ℕ) → IsOutsideBox ns lo hi part k → slice_index new k ≡ slice_index old k
+all_others ns lo hi part x n old new le p k out =
+    p.others k (λ i lt h.
+    let index : place ns h.cell % 1000 ≡ i = omega (arith, h.place_is, lt, le) in
+    subst (λ (j : ℕ). IsBeside j k) index (out h.cell h.is_cell h.inside (omega (arith, h.place_is, lt, le))))
+
+pub all_cells : (ns lo hi : List ℕ) (part x n : ℕ) (old new : List ℕ) → n ≡ cells_on ns part → PagePatched ns lo hi part x n old new
+    → (cells after : List ℕ) → Spells part old cells → length cells ≡ cells_on ns part → IsPatched ns lo hi part x cells after → Spells part new after
+all_cells ns lo hi part x n old new end p cells after s count q =
+    p.cells cells after s count (record {
+      count = q.count;
+      inside = λ i lt. q.inside i (omega (arith, lt, end, count));
+      outside = λ i lt no. q.outside i lt (no (omega (arith, lt, end, count)));
+    })

@@ -1,0 +1,43 @@
+use Rattle.std.proofs.Common.{◌+◌, ◌*◌, sym, ◌∙◌, subst, arith}
+use Rattle.std.proofs.lemmas.Bool.{false≢true}
+use Rattle.directory_pages.proofs.Boxed.{PagePatched, page_unpatched, has_place, no_place, place_passed, place_patched, all_named, all_others, all_cells}
+use Rattle.directory_pages.proofs.boxes.patch_box.Goals as goal
+use Rattle.directory_pages.proofs.boxes.patch_box.Goals.{then-is_in_box, else-is_in_box}
+
+pub loop-i-init : goal.loop-i-init
+loop-i-init g c = page_unpatched c.args.dims.now.n c.args.lo.now c.args.hi.now c.args.part c.args.bucket c.args.page.now c.told-page
+
+pub loop-i-preserved : goal.loop-i-preserved
+loop-i-preserved g c =
+    let ns = c.args.dims.now.n in
+    let lo = c.args.lo.now in
+    let hi = c.args.hi.now in
+    let part = c.args.part in
+    let i = c.loop-i.i in
+    let x = c.args.bucket in
+    let first = c.args.page.now in
+    let old = c.loop-i.page in
+    let at = 1000 * part + i in
+    let done = PagePatched ns lo hi part x (i + 1) first in
+    elim c.if-is_in_box.branch [
+      | then-is_in_box w ↦
+          let here = has_place ns lo hi c.cell.result at c.cell.ensures.cell c.cell.ensures.place (c.is_in_box.ensures.0 w.if-is_in_box.true) in
+          subst done (sym w.page-is)
+          (place_patched ns lo hi part x i first old w.set_bucket.new.page here (omega (arith, c.loop-i-test.true, c.cells_on-i-end.ensures)) (omega arith) w.set_bucket.ensures.written w.set_bucket.array_long
+          (λ cells s lt. w.set_bucket.ensures.cells part cells s lt) c.loop-i.invariant)
+      | else-is_in_box w ↦
+          let out = no_place ns lo hi c.cell.result at c.cell.ensures.only (λ b. false≢true (sym w.if-is_in_box.false ∙ c.is_in_box.ensures.1 b)) in
+          subst done (sym w.page-is) (place_passed ns lo hi part x i first old out c.loop-i.invariant)
+    ]
+
+pub returns-clause-named : goal.returns-clause-named
+returns-clause-named g c =
+    all_named c.args.dims.now.n c.args.lo.now c.args.hi.now c.args.part c.args.bucket c.loop-i.i c.args.page.now c.loop-i.page (omega (arith, c.loop-i-test.false, c.cells_on-i-end.ensures)) c.loop-i.invariant
+
+pub returns-clause-others : goal.returns-clause-others
+returns-clause-others g c =
+    all_others c.args.dims.now.n c.args.lo.now c.args.hi.now c.args.part c.args.bucket c.loop-i.i c.args.page.now c.loop-i.page (omega (arith, c.loop-i.auto.i-end, c.cells_on-i-end.ensures)) c.loop-i.invariant
+
+pub returns-clause-cells : goal.returns-clause-cells
+returns-clause-cells g c =
+    all_cells c.args.dims.now.n c.args.lo.now c.args.hi.now c.args.part c.args.bucket c.loop-i.i c.args.page.now c.loop-i.page (omega (arith, c.loop-i-test.false, c.loop-i.auto.i-end, c.cells_on-i-end.ensures)) c.loop-i.invariant
