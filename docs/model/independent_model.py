@@ -50,11 +50,12 @@ def number(word):
     return int(word)
 
 
-def numbers(word, k):
-    key = tuple(number(part) for part in word.split(b","))
-    if len(key) != k:
+def by_attribute(read, word, k):
+    """What `read` takes from each of the k parts of a word, which commas join."""
+    parts = tuple(read(part) for part in word.split(b","))
+    if len(parts) != k:
         raise ValueError(word)
-    return key
+    return parts
 
 
 def side(word):
@@ -65,13 +66,6 @@ def side(word):
     if bounds[0] > bounds[1]:
         raise ValueError(word)
     return bounds
-
-
-def sides(word, k):
-    query = tuple(side(part) for part in word.split(b","))
-    if len(query) != k:
-        raise ValueError(word)
-    return query
 
 
 def data(word):
@@ -86,11 +80,11 @@ def request(words, k):
     """The request that the words of a line name; ValueError where they name none."""
     match words:
         case [b"put", key, value]:
-            return "put", numbers(key, k), data(value)
+            return "put", by_attribute(number, key, k), data(value)
         case [b"remove" | b"get" as command, key]:
-            return command.decode(), numbers(key, k)
+            return command.decode(), by_attribute(number, key, k)
         case [b"list" | b"count" as command, query]:
-            return command.decode(), sides(query, k)
+            return command.decode(), by_attribute(side, query, k)
         case [b"stat" | b"checkpoint" as command]:
             return (command.decode(),)
     raise ValueError(words)
