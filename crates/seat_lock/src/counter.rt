@@ -1,6 +1,6 @@
 //! A counter with sixteen places, the least that a lock can hold. Tests share it, and the cost of a step is measured on it.
 ghost use Rattle.std.specs.Prelude.{◌≡◌, ◌≤◌, ◌<◌, ℕ, [], Some, None, IsTrue};
-ghost use Rattle.seat_lock.specs.Parts.{listing};
+ghost use Rattle.seat_lock.specs.Parts.{listing, how_many};
 ghost use Rattle.seat_lock.specs.Counters.{part_of, places_of, Sound};
 
 use crate::stepped::Stepped;
@@ -41,6 +41,19 @@ impl Counter {
             parts,
         }
     }
+}
+
+/// How many places are out.
+fn places_out(counter: &Counter) -> u32
+    ensures { result ≡ how_many (part_of counter.now) (places_of counter.now) }
+{
+    let mut out = 0;
+    for place in 0..16 {
+        if counter.parts[place].is_some() {
+            out += 1;
+        }
+    }
+    out
 }
 
 impl Stepped for Counter {
@@ -101,13 +114,7 @@ impl Stepped for Counter {
     }
 
     fn out(&self) -> u32 {
-        let mut out = 0;
-        for place in 0..16 {
-            if self.parts[place].is_some() {
-                out += 1;
-            }
-        }
-        out
+        places_out(self)
     }
 
     fn fork(&mut self, seat: u32) -> Result<u32, u64> {
