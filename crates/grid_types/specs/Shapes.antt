@@ -1,5 +1,5 @@
 -- The shape of a file, and where its pages stand.
-use Rattle.std.specs.Prelude.{ℕ, ◌+◌, ◌*◌, ◌/◌, ◌%◌, Bool, ◌&&◌, nat_le}
+use Rattle.std.specs.Prelude.{ℕ, ◌≤◌, ◌+◌, ◌*◌, ◌/◌, ◌%◌, Bool, ◌&&◌, nat_le}
 use Rattle.grid_types.specs.declared.shape.Shape.{Shape}
 
 -- a number lies between two others, both included
@@ -49,3 +49,30 @@ slot_page s half i = gate_page s half + 1 + i
 -- data page i
 unfoldable pub data_page : Shape → ℕ → ℕ
 data_page s i = 4 + 2 * area_pages s + 2 * s.slots + i
+
+-- the byte of a header page's gate, counted from the start of the file
+abbrev pub header_gate_at : ℕ → ℕ
+header_gate_at header = header * 4096 + 64
+
+-- the first byte of the root fields on a header page, counted from the start of the file
+abbrev pub root_fields_at : ℕ → ℕ
+root_fields_at header = header * 4096 + 72
+
+-- the byte of the gate of slot i of a half, counted from the start of the file
+unfoldable pub slot_gate_at : Shape → ℕ → ℕ → ℕ
+slot_gate_at s half i = gate_page s half * 4096 + 96 + i
+
+-- the numbers of a lawful shape are within their limits
+pub record IsWithinLimits (s : Shape) : Type 0 where
+  pub some_attributes : 1 ≤ s.k
+  pub few_attributes : s.k ≤ 4
+  pub some_capacity : 2 ≤ s.capacity
+  pub small_capacity : s.capacity ≤ 48
+  pub some_pages : 8 ≤ s.pages
+  pub few_pages : s.pages ≤ 65536
+  pub some_slots : 1 ≤ s.slots
+  pub few_slots : s.slots ≤ 4000
+  pub some_boundaries : 1 ≤ s.boundaries
+  pub few_boundaries : s.boundaries ≤ 1000
+  pub some_cells : 1 ≤ s.cells
+  pub few_cells : s.cells ≤ 1000000

@@ -12,9 +12,10 @@ pub struct Cut {
 }
 
 /// What an update does to the layout.
-#[derive(Clone, Copy, Debug, PartialEq, Eq)]
+#[derive(Clone, Copy, Debug, Default, PartialEq, Eq)]
 pub enum NoteOf {
     /// Nothing.
+    #[default]
     Plain,
     /// Its bucket is cut, and the right part gets that number.
     Cut { cut: Cut, right: u32 },
@@ -23,7 +24,7 @@ pub enum NoteOf {
 }
 
 /// An update, with what it does to the layout.
-#[derive(Debug, Drop, PartialEq, Eq)]
+#[derive(Debug, Default, Drop, PartialEq, Eq)]
 pub struct Noted<const K: usize> {
     pub update: Update<K>,
     pub note: NoteOf,

@@ -18,6 +18,12 @@ pub enum Update<const K: usize> {
     Remove(Key<K>),
 }
 
+impl<const K: usize> Default for Update<K> {
+    fn default() -> Update<K> {
+        Update::Remove(Key::default())
+    }
+}
+
 /// An update in a history: who made it.
 #[derive(Debug, Drop, PartialEq, Eq)]
 pub struct Entry<const K: usize> {

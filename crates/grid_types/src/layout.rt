@@ -1,0 +1,71 @@
+//! Where the pages of a file are.
+ghost use Rattle.std.specs.Prelude.{◌≡◌, ◌<◌, ◌≤◌, ◌+◌, ◌*◌, IsTrue};
+ghost use Rattle.grid_types.specs.Shapes.{is_shape, area_pages, file_pages, table_page, gate_page, slot_page, data_page};
+
+use crate::Shape;
+
+/// Where the pages of a file of a shape are. All page numbers are of the file.
+#[derive(Clone, Copy, Debug, PartialEq, Eq)]
+pub struct Layout {
+    pub shape: Shape,
+}
+
+impl Layout {
+    /// How many pages a table area has.
+    pub fn area_pages(&self) -> u32
+        requires { IsTrue (is_shape self.now.shape) }
+        ensures value { result ≡ area_pages self.now.shape }
+        ensures small { result ≤ 75 }
+    {
+        9 + (self.shape.pages + 999) / 1000
+    }
+
+    /// Page `i` of a table area, 0 or 1.
+    pub fn table_page(&self, area: u8, i: u32) -> u32
+        requires lawful { IsTrue (is_shape self.now.shape) }
+        requires two { area < 2 }
+        requires inside { i < area_pages self.now.shape }
+        ensures value { result ≡ table_page self.now.shape area i }
+        ensures inside { result < file_pages self.now.shape }
+    {
+        let pages = self.area_pages();
+        if area == 0 { 2 + i } else { 2 + pages + i }
+    }
+
+    /// The gate page of a half of the journal, 0 or 1.
+    pub fn gate_page(&self, half: u8) -> u32
+        requires lawful { IsTrue (is_shape self.now.shape) }
+        requires two { half < 2 }
+        ensures value { result ≡ gate_page self.now.shape half }
+        ensures inside { result < file_pages self.now.shape }
+        ensures small { result ≤ 10000 }
+    {
+        let pages = self.area_pages();
+        if half == 0 {
+            2 + 2 * pages
+        } else {
+            3 + 2 * pages + self.shape.slots
+        }
+    }
+
+    /// The page of slot `i` of a half of the journal, 0 or 1.
+    pub fn slot_page(&self, half: u8, i: u32) -> u32
+        requires lawful { IsTrue (is_shape self.now.shape) }
+        requires two { half < 2 }
+        requires inside { i < self.now.shape.slots }
+        ensures value { result ≡ slot_page self.now.shape half i }
+        ensures inside { result < file_pages self.now.shape }
+    {
+        self.gate_page(half) + 1 + i
+    }
+
+    /// The file's page of data page `i`.
+    pub fn data_page(&self, i: u32) -> u32
+        requires lawful { IsTrue (is_shape self.now.shape) }
+        requires inside { i < self.now.shape.pages }
+        ensures value { result ≡ data_page self.now.shape i }
+        ensures inside { result < file_pages self.now.shape }
+    {
+        4 + 2 * self.area_pages() + 2 * self.shape.slots + i
+    }
+}
