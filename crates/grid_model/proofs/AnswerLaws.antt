@@ -1,32 +1,17 @@
 -- The answers to one request more.
-use Rattle.std.proofs.Common.{◌≡◌, ◌≤◌, ◌+◌, ℕ, Bool, true, false, List, [], ◌∷◌, ◌++◌, length, refl, ap, arith}
-use Rattle.std.specs.Prelude.{if◌then◌else◌}
-use Rattle.grid_types.specs.declared.point.PointRequest.{PointRequest}
-use Rattle.grid_types.specs.declared.point.PointRequest.TheVariants.{Put, Get}
-use Rattle.grid_model.specs.Tables.{with_data}
-use Rattle.grid_model.specs.OneBucket.{Lone, takes, answer, after, answers, afterwards}
+use Rattle.std.proofs.Common.{◌≡◌, ℕ, List, [], ◌∷◌, ◌++◌, refl, ap}
+use Rattle.grid_types.specs.declared.shape.Shape.{Shape}
+use Rattle.grid_types.specs.declared.request.Request.{Request}
+use Rattle.grid_model.specs.Lone.{State, lone, answers, afterwards}
 
-pub afterwards-push : {K : ℕ} (capacity : ℕ) (s : Lone) (rs : List (PointRequest K)) (r : PointRequest K) → afterwards capacity s (rs ++ r ∷ []) ≡ after capacity (afterwards capacity s rs) r
+-- what stands after one request more is what that request leaves
+pub afterwards-push : {K : ℕ} (shape : Shape) (s : State K) (rs : List (Request K)) (r : Request K) → afterwards shape s (rs ++ r ∷ []) ≡ (lone shape (afterwards shape s rs) r).state
 unfolding afterwards
-afterwards-push capacity s [] r = refl
-afterwards-push capacity s (q ∷ qs) r = afterwards-push capacity (after capacity s q) qs r
+afterwards-push shape s [] r = refl
+afterwards-push shape s (q ∷ qs) r = afterwards-push shape (lone shape s q).state qs r
 
-pub answers-push : {K : ℕ} (capacity : ℕ) (s : Lone) (rs : List (PointRequest K)) (r : PointRequest K) → answers capacity s (rs ++ r ∷ []) ≡ answers capacity s rs ++ answer capacity (afterwards capacity s rs) r ∷ []
+-- the answers to one request more are the answers so far and the answer to that one
+pub answers-push : {K : ℕ} (shape : Shape) (s : State K) (rs : List (Request K)) (r : Request K) → answers shape s (rs ++ r ∷ []) ≡ answers shape s rs ++ (lone shape (afterwards shape s rs) r).reply ∷ []
 unfolding answers afterwards
-answers-push capacity s [] r = refl
-answers-push capacity s (q ∷ qs) r = ap (λ replies. answer capacity s q ∷ replies) (answers-push capacity (after capacity s q) qs r)
-
--- a request makes one update at most
-pub front-after : {K : ℕ} (capacity : ℕ) (s : Lone) (r : PointRequest K) → (after capacity s r).front ≤ s.front + 1
-unfolding after
-front-after capacity s (Get k) = omega arith
-front-after capacity s (Put r) = by (takes capacity s.table r.key.at)
-  where
-    by : (b : Bool) → (if b then record { table = with_data s.table r.key.at r.value; front = s.front + 1 } else s).front ≤ s.front + 1
-    by true = omega arith
-    by false = omega arith
-
-pub front-afterwards : {K : ℕ} (capacity : ℕ) (s : Lone) (rs : List (PointRequest K)) → (afterwards capacity s rs).front ≤ s.front + length rs
-unfolding afterwards
-front-afterwards capacity s [] = omega arith
-front-afterwards capacity s (r ∷ rs) = omega (arith, front-after capacity s r, front-afterwards capacity (after capacity s r) rs)
+answers-push shape s [] r = refl
+answers-push shape s (q ∷ qs) r = ap (λ replies. (lone shape s q).reply ∷ replies) (answers-push shape (lone shape s q).state qs r)

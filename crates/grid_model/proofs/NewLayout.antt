@@ -35,7 +35,8 @@ has-leasts s e =
       cells = at_least 1 1000000 s.cells (second (is_from_to 1 1000 s.boundaries) (is_from_to 1 1000000 s.cells) (second (has_lawful_pages s) (has_lawful_bounds s) rest));
     }
 
-one_cell : (K : ℕ) → cells (replicate K []) ≡ 1
+-- scales without boundaries have one cell
+pub one_cell : (K : ℕ) → cells (replicate K []) ≡ 1
 one_cell zero = refl
 one_cell (suc K) = let rest : cells (replicate K []) ≡ 1 = one_cell K in omega (arith, rest)
 
@@ -50,7 +51,7 @@ alike_key K x h = record { count = length-replicate K x; in_range = λ a. by a (
         omega (arith, is)
 
 -- the region of every key has each key
-whole_has : (K : ℕ) (k : List ℕ) → IsKey K k → contains (whole K) k ≡ true
+pub whole_has : (K : ℕ) (k : List ℕ) → IsKey K k → contains (whole K) k ≡ true
 whole_has K k key =
     let count : length k ≡ K = key.count in
     let lows : length {A = ℕ} (replicate K 0) ≡ K = length-replicate K 0 in

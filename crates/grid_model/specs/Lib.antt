@@ -26,6 +26,3 @@ pub mod CutLaws
 pub mod LayoutLaws
 pub mod LoneLaws
 pub mod ScriptLaws
-pub mod OneBucket
-pub mod PointScript
-pub mod PointText

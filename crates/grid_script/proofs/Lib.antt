@@ -6,4 +6,4 @@ pub mod NumberTexts
 pub mod Partings
 pub mod Pieces
 pub mod Sides
-pub mod Untaken
+pub mod Taking

@@ -4,18 +4,16 @@
 mod data;
 mod lines;
 mod number;
-mod point_script;
-mod point_text;
 mod printer;
 mod reader;
 mod script;
+mod taken;
 #[cfg(test)]
 mod tests;
 mod text;
 
-pub use point_script::{PointScript, read_points, script_law};
-pub use point_text::print_reply;
-pub use printer::print_part;
+pub use printer::{add_first, add_row, print_part, rows_of};
 pub use reader::read_script;
 pub use script::{Script, ScriptFault};
-pub use text::{LINE, Text, print_client, print_front};
+pub use taken::{read_taken, taken_law};
+pub use text::{LINE, Text, add_client, add_front};

@@ -1,5 +1,5 @@
 //! Replies as text, part by part.
-ghost use Rattle.std.specs.Prelude.{◌≡◌, ◌<◌, ◌≤◌, ◌+◌, ◌++◌, ◌↔◌, [], false, length, slice_index_or, codes, IsTrue, IfSome, IfNone};
+ghost use Rattle.std.specs.Prelude.{◌≡◌, ◌<◌, ◌≤◌, ◌+◌, ◌++◌, ◌↔◌, ◌∷◌, [], false, map, length, slice_index_or, codes, IsTrue, IfSome, IfNone};
 ghost use Rattle.arrayvec.specs.ArrayVec.{array_vec_len};
 ghost use Rattle.grid_model.specs.Text.{key_text, removed_text, row_text, stat_text, reply_lines, ended};
 
@@ -132,6 +132,39 @@ fn row_at<const K: usize>(reply: &Reply<K>, i: usize) -> Option<&Record<K>>
         Reply::Listed(answer) => answer.value.list().get(i),
         _ => None,
     }
+}
+
+/// The rows that a reply lists, each a line behind the reply's first.
+#[tactic(auto, unfolding(grid_model::specs::Text::reply_lines))]
+pub fn rows_of<const K: usize>(reply: &Reply<K>) -> &[Record<K>]
+    ensures { reply_lines reply.now ≡ slice_index_or (reply_lines reply.now) 0 [] ∷ map row_text result.now }
+{
+    match reply {
+        Reply::Listed(answer) => answer.value.list(),
+        _ => &[],
+    }
+}
+
+/// Adds the first line of a reply with its end. `LINE` bytes are enough for any.
+pub fn add_first<const K: usize>(reply: &Reply<K>, out: &mut Text)
+    requires few { K ≤ 4 }
+    requires room { array_vec_len out.old + 192 ≤ 4096 }
+    ensures line { out.new.items ≡ out.old.items ++ ended (slice_index_or (reply_lines reply.now) 0 []) }
+    ensures len { array_vec_len out.new ≤ array_vec_len out.old + 192 }
+{
+    print_first(reply, out);
+    print_bytes(b"\n", out);
+}
+
+/// Adds the line of a row that a reply lists, with its end. `LINE` bytes are enough for any.
+pub fn add_row<const K: usize>(row: &Record<K>, out: &mut Text)
+    requires few { K ≤ 4 }
+    requires room { array_vec_len out.old + 192 ≤ 4096 }
+    ensures line { out.new.items ≡ out.old.items ++ ended (row_text row.now) }
+    ensures len { array_vec_len out.new ≤ array_vec_len out.old + 192 }
+{
+    print_row(row, out);
+    print_bytes(b"\n", out);
 }
 
 /// Part i of the text of a reply, in place of what stood in the list: the reply's line i with its end. False where the

@@ -1,7 +1,7 @@
 //! The parts of a printed line.
 ghost use Rattle.std.specs.Prelude.{◌≡◌, ◌≤◌, ◌+◌, ◌++◌, length, decimal, codes};
 ghost use Rattle.arrayvec.specs.ArrayVec.{array_vec_len};
-ghost use Rattle.grid_model.specs.Text.{hex_text, numbered, put_text, got_text, refusal_text, front_line};
+ghost use Rattle.grid_model.specs.Text.{hex_text, numbered, put_text, got_text, refusal_text, ended, front_line};
 
 use arrayvec::ArrayVec;
 use grid_types::{Data, Refusal};
@@ -10,8 +10,8 @@ use itoa::Buffer;
 /// Where text is gathered before it is written.
 pub type Text = ArrayVec<u8, 4096>;
 
-/// As many bytes as are enough for the line of a put or a get, of a client or of the front.
-pub const LINE: usize = 128;
+/// As many bytes as are enough for any line: a row of four numbers and 40 bytes has 166 with its end.
+pub const LINE: usize = 192;
 
 pub fn print_bytes(bytes: &[u8], out: &mut Text)
     requires { array_vec_len out.old + length bytes.now ≤ 4096 }
@@ -135,20 +135,21 @@ pub fn print_refusal(refusal: &Refusal, out: &mut Text)
 
 /// Adds the line with the front.
 #[tactic(auto, unfolding(grid_model::specs::Text::front_line))]
-pub fn print_front(front: u64, out: &mut Text)
-    requires room { array_vec_len out.old + 128 ≤ 4096 }
+pub fn add_front(front: u64, out: &mut Text)
+    requires room { array_vec_len out.old + 192 ≤ 4096 }
     ensures line { out.new.items ≡ out.old.items ++ front_line front }
-    ensures len { array_vec_len out.new ≤ array_vec_len out.old + 128 }
+    ensures len { array_vec_len out.new ≤ array_vec_len out.old + 192 }
 {
     print_numbered(b"front ", front, out);
     print_bytes(b"\n", out);
 }
 
-/// Adds the line with the number of the client.
-pub fn print_client(out: &mut Text)
-    requires room { array_vec_len out.old + 128 ≤ 4096 }
-    ensures line { out.new.items ≡ out.old.items ++ codes "client 1\n" }
-    ensures len { array_vec_len out.new ≤ array_vec_len out.old + 128 }
+/// Adds the line that names a client.
+pub fn add_client(client: u32, out: &mut Text)
+    requires room { array_vec_len out.old + 192 ≤ 4096 }
+    ensures line { out.new.items ≡ out.old.items ++ ended (numbered (codes "client ") client) }
+    ensures len { array_vec_len out.new ≤ array_vec_len out.old + 192 }
 {
-    print_bytes(b"client 1\n", out);
+    print_numbered(b"client ", client.into(), out);
+    print_bytes(b"\n", out);
 }

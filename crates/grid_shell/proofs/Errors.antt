@@ -2,7 +2,7 @@
 use Rattle.std.proofs.Common.{◌≡◌, ap}
 use Rattle.std.specs.Prelude.{Result, Ok, Err, IsErrOf, IfOk}
 
-same_value : {T E : Type 0} (e f : E) → IsErrOf {T = T} {E = E} (Err e) f → e ≡ f
+pub same_value : {T E : Type 0} (e f : E) → IsErrOf {T = T} {E = E} (Err e) f → e ≡ f
 same_value e f h = cc
 
 -- what went wrong in one call goes wrong in the other

@@ -1,9 +1,12 @@
 -- A script, and the front of the input that is read of it: one byte more than a script may have.
-use Rattle.std.proofs.Common.{◌≡◌, ◌≤◌, ◌<◌, inl, inr, ℕ, List, length, take, sym, subst, arith}
+use Rattle.std.proofs.Common.{◌≡◌, ◌≤◌, ◌<◌, ◌∙◌, inl, inr, ℕ, Bool, true, false, List, length, take, refl, sym, ap, subst, arith, nat_lt, ltb-false, ltb-true}
+use Rattle.std.specs.Prelude.{Ok, Err, if◌then◌else◌}
+use Rattle.std.proofs.lemmas.Bool.{lt-ltb}
 use Rattle.std.proofs.lemmas.List.{length-take, take_all}
-use Rattle.grid_types.specs.declared.point.PointRequest.{PointRequest}
-use Rattle.grid_model.specs.Script.{longest}
-use Rattle.grid_model.specs.PointScript.{IsScript, FirstFault, IsFault}
+use Rattle.grid_types.specs.declared.request.Line.{Line}
+use Rattle.grid_model.specs.Script.{longest, lines, asked, meanings}
+use Rattle.grid_script.specs.Taken.{IsScript, FirstUntaken, IsFault}
+use Rattle.grid_script.proofs.Taking.{read-short}
 
 -- the most that is read
 abbrev pub most : ℕ
@@ -17,17 +20,36 @@ at_most : (n : ℕ) → n < most → n ≤ longest
 unfolding longest
 at_most n lt = omega (arith, lt)
 
-short_front : (all : List ℕ) → length (take most all) ≤ longest → length all ≤ longest
-short_front all le = at_most (length all) (omega (arith, le, length-take most all, more_than_longest))
-
 whole : (all : List ℕ) → length all ≤ longest → take most all ≡ all
 whole all le = take_all most all (omega (arith, le, more_than_longest))
 
-pub script_read : {K : ℕ} (all : List ℕ) (requests : List (PointRequest K)) → IsScript all requests → IsScript (take most all) requests
-script_read all requests s = subst (λ bytes. IsScript bytes requests) (sym (whole all s.short)) s
+long_front : (all : List ℕ) → longest < length all → longest < length (take most all)
+long_front all lt = omega (arith, lt, more_than_longest, length-take most all)
+
+-- what is read says all that the input says
+pub lines_read : (K : ℕ) (all : List ℕ) → lines K (take most all) ≡ lines K all
+unfolding lines
+lines_read K all = by (nat_lt longest (length all)) refl
+  where
+    by : (t : Bool) → nat_lt longest (length all) ≡ t
+        → (if nat_lt longest (length (take most all)) then Err 0 else asked 1 1 (meanings K (take most all))) ≡ (if nat_lt longest (length all) then Err 0 else asked 1 1 (meanings K all))
+    by true e =
+        ap (λ t. if t then Err 0 else asked 1 1 (meanings K (take most all))) (lt-ltb longest (length (take most all)) (long_front all (ltb-true longest (length all) e)))
+        ∙ sym (ap (λ t. if t then Err 0 else asked 1 1 (meanings K all)) e)
+    by false e =
+        let le : length all ≤ longest = ltb-false longest (length all) e in
+        ap (λ bytes. if nat_lt longest (length bytes) then Err 0 else asked 1 1 (meanings K bytes)) (whole all le)
+
+pub script_read : {K : ℕ} (all : List ℕ) (ls : List (Line K)) → IsScript (take most all) ls → IsScript all ls
+script_read {K} all ls s = record { read = sym (lines_read K all) ∙ s.read; taken = s.taken }
+
+short_all : (K : ℕ) (all : List ℕ) (ls : List (Line K)) → lines K (take most all) ≡ Ok ls → length all ≤ longest
+short_all K all ls e = read-short all ls (sym (lines_read K all) ∙ e)
 
 pub fault_read : (K : ℕ) (all : List ℕ) (n : ℕ) → IsFault K (take most all) n → IsFault K all n
-fault_read K all n (inl long) = inl (omega (arith, long.0, length-take most all), long.1)
-fault_read K all n (inr first) =
-    let short = short_front all first.0 in
-    inr (short, subst (λ bytes. FirstFault K bytes n) (whole all short) first.1)
+fault_read K all n (inl e) = inl (sym (lines_read K all) ∙ e)
+fault_read K all n (inr u) = inr (record {
+  asked = u.asked;
+  read = sym (lines_read K all) ∙ u.read;
+  first = subst (λ bytes. FirstUntaken K bytes n) (whole all (short_all K all u.asked u.read)) u.first;
+})

@@ -1,5 +1,7 @@
 pub mod Adding
 pub mod Buckets
+pub mod Clients
+pub mod Closing
 pub mod Errors
 pub mod Fronts
 pub mod Lines
@@ -10,4 +12,5 @@ pub mod Replies
 pub mod Sequences
 pub mod Sessions
 pub mod Taking
+pub mod Undivided
 pub mod Worst

@@ -1,39 +1,88 @@
--- The text of a run, line by line.
-use Rattle.std.proofs.Common.{◌≡◌, ◌<◌, ◌+◌, ℕ, List, [], ◌∷◌, ◌++◌, length, take, get_or, drop, refl, sym, ap, ◌∙◌, append_assoc, codes, subst, arith}
+-- The text of a run, reply by reply.
+use Rattle.std.proofs.Common.{◌≡◌, ◌<◌, ◌+◌, ℕ, List, [], ◌∷◌, ◌++◌, map, length, take, get_or, drop, refl, sym, ap, ◌∙◌, append_assoc, codes, subst, arith}
 use Rattle.std.specs.List.{flat_map}
 use Rattle.std.proofs.lemmas.List.{append-nil, flat_map_more, take_more, take_all, take-append-drop}
 use Rattle.std.proofs.lemmas.Grind.{flat_map-append}
 use Rattle.disk_trait.specs.Streams.{Adds}
-use Rattle.grid_shell.proofs.Adding.{adds_longer}
-use Rattle.grid_types.specs.declared.point.PointReply.{PointReply}
-use Rattle.grid_model.specs.Text.{front_line}
-use Rattle.grid_model.specs.PointText.{reply_line, client_text, text}
+use Rattle.grid_types.specs.declared.request.Reply.{Reply}
+use Rattle.grid_types.specs.declared.update.Record.{Record}
+use Rattle.grid_model.specs.Text.{numbered, ended, reply_lines, row_text, front_line, group_lines, text_lines, text}
+use Rattle.grid_shell.specs.Runs.{group_of}
+use Rattle.grid_shell.proofs.Adding.{adds_longer, adds_next}
+
+-- the text of a reply: its lines, each with its end
+abbrev pub reply_text : {K : ℕ} → Reply K → List ℕ
+reply_text r = flat_map ended (reply_lines r)
 
 -- the line that names the client, where it was told anything
-abbrev pub title : List PointReply → List ℕ
+abbrev pub title : {K : ℕ} → List (Reply K) → List ℕ
 title [] = []
-title (r ∷ rs) = codes "client 1\n"
+title (r ∷ rs) = ended (numbered (codes "client ") 1)
 
--- the title and the first lines
-abbrev pub lines_to : List PointReply → ℕ → List ℕ
-lines_to rs i = title rs ++ flat_map reply_line (take i rs)
+-- the title and the first replies
+abbrev pub text_to : {K : ℕ} → List (Reply K) → ℕ → List ℕ
+text_to rs i = title rs ++ flat_map reply_text (take i rs)
 
-pub lines_none : (rs : List PointReply) → lines_to rs 0 ≡ title rs
-lines_none rs = append-nil (title rs)
+pub text_none : {K : ℕ} (rs : List (Reply K)) → text_to rs 0 ≡ title rs
+text_none rs = append-nil (title rs)
 
-pub lines_more : (rs : List PointReply) (i : ℕ) (d : PointReply) → i < length rs → lines_to rs (i + 1) ≡ lines_to rs i ++ reply_line (get_or rs i d)
-lines_more rs i d lt = ap (λ qs. title rs ++ flat_map reply_line qs) (take_more rs i d lt) ∙ sym (flat_map_more reply_line (title rs) (take i rs) (get_or rs i d))
+pub text_more : {K : ℕ} (rs : List (Reply K)) (i : ℕ) (d : Reply K) → i < length rs → text_to rs (i + 1) ≡ text_to rs i ++ reply_text (get_or rs i d)
+text_more rs i d lt = ap (λ qs. title rs ++ flat_map reply_text qs) (take_more rs i d lt) ∙ sym (flat_map_more reply_text (title rs) (take i rs) (get_or rs i d))
 
-titled : (rs : List PointReply) → title rs ++ flat_map reply_line rs ≡ client_text rs
-unfolding client_text
-titled [] = refl
-titled (r ∷ rs) = refl
+-- the lines of all replies, each with its end
+all_ended : {K : ℕ} (rs : List (Reply K)) → flat_map ended (flat_map reply_lines rs) ≡ flat_map reply_text rs
+all_ended [] = refl
+all_ended (r ∷ rs) = flat_map-append ended (reply_lines r) (flat_map reply_lines rs) ∙ ap (λ (t : List ℕ). reply_text r ++ t) (all_ended rs)
 
-pub all_lines : (rs : List PointReply) (n front : ℕ) → length rs ≡ n → lines_to rs n ++ front_line front ≡ text rs front
-unfolding text
-all_lines rs n front e = ap (λ qs. (title rs ++ flat_map reply_line qs) ++ front_line front) (take_all n rs (omega (arith, e))) ∙ ap (λ (xs : List ℕ). xs ++ front_line front) (titled rs)
+grouped : {K : ℕ} (rs : List (Reply K)) → flat_map ended (flat_map group_lines (group_of rs)) ≡ title rs ++ flat_map reply_text rs
+grouped [] = refl
+grouped (r ∷ rs) =
+    ap (flat_map ended) (append-nil (numbered (codes "client ") 1 ∷ flat_map reply_lines (r ∷ rs)))
+    ∙ ap (λ (t : List ℕ). ended (numbered (codes "client ") 1) ++ t) (all_ended (r ∷ rs))
 
--- one line more in the buffer
+pub all_text : {K : ℕ} (rs : List (Reply K)) (n front : ℕ) → length rs ≡ n → text_to rs n ++ front_line front ≡ text (group_of rs) front
+unfolding text text_lines front_line
+all_text rs n front e =
+    ap (λ qs. (title rs ++ flat_map reply_text qs) ++ ended (numbered (codes "front ") front)) (take_all n rs (omega (arith, e)))
+    ∙ (λ i. sym (grouped rs) i ++ sym (append-nil (ended (numbered (codes "front ") front))) i)
+    ∙ sym (flat_map-append ended (flat_map group_lines (group_of rs)) (numbered (codes "front ") front ∷ []))
+
+-- the line of a row, with its end
+abbrev pub row_line : {K : ℕ} → Record K → List ℕ
+row_line r = ended (row_text r)
+
+-- a first line, and the lines of the first rows
+abbrev pub rows_to : {K : ℕ} → List ℕ → List (Record K) → ℕ → List ℕ
+rows_to first rows i = ended first ++ flat_map row_line (take i rows)
+
+pub rows_none : {K : ℕ} (first : List ℕ) (rows : List (Record K)) → rows_to first rows 0 ≡ ended first
+rows_none first rows = append-nil (ended first)
+
+pub rows_more : {K : ℕ} (first : List ℕ) (rows : List (Record K)) (i : ℕ) (d : Record K) → i < length rows → rows_to first rows (i + 1) ≡ rows_to first rows i ++ row_line (get_or rows i d)
+rows_more first rows i d lt = ap (λ qs. ended first ++ flat_map row_line qs) (take_more rows i d lt) ∙ sym (flat_map_more row_line (ended first) (take i rows) (get_or rows i d))
+
+each_row : {K : ℕ} (rows : List (Record K)) → flat_map ended (map row_text rows) ≡ flat_map row_line rows
+each_row [] = refl
+each_row (r ∷ rows) = ap (λ (t : List ℕ). row_line r ++ t) (each_row rows)
+
+module _ {K : ℕ} (r : Reply K) (first : List ℕ) (rows : List (Record K)) (lines : reply_lines r ≡ first ∷ map row_text rows) where
+  rows_whole : rows_to first rows (length rows) ≡ reply_text r
+  rows_whole = ap (λ qs. ended first ++ flat_map row_line qs) (take_all (length rows) rows (omega arith)) ∙ ap (λ (t : List ℕ). ended first ++ t) (sym (each_row rows)) ∙ ap (flat_map ended) (sym lines)
+
+  pub rows_all : (n : ℕ) → length rows ≡ n → rows_to first rows n ≡ reply_text r
+  rows_all n e = ap (rows_to first rows) (sym e) ∙ rows_whole
+
+  -- a front of the first lines is one of all of them
+  pub adds_rows : (old new had : List ℕ) (i : ℕ) → Adds old new (had ++ rows_to first rows i) → Adds old new (had ++ reply_text r)
+  adds_rows old new had i a =
+      let rest = flat_map row_line (drop i rows) in
+      let all : rows_to first rows i ++ rest ≡ reply_text r =
+      append_assoc (ended first) (flat_map row_line (take i rows)) rest
+      ∙ ap (λ (xs : List ℕ). ended first ++ xs) (sym (flat_map-append row_line (take i rows) (drop i rows)) ∙ ap (flat_map row_line) (take-append-drop i rows ∙ sym (take_all (length rows) rows (omega arith))))
+      ∙ rows_whole in
+      subst (λ (t : List ℕ). Adds old new t) (append_assoc had (rows_to first rows i) rest ∙ ap (λ (t : List ℕ). had ++ t) all) (adds_longer old new (had ++ rows_to first rows i) rest a)
+
+-- one piece more in the buffer
 pub one_more : (sent now before had all line next : List ℕ) → now ≡ before ++ line → sent ++ before ≡ had ++ all → next ≡ all ++ line → sent ++ now ≡ had ++ next
 one_more sent now before had all line next n e l =
     ap (λ (xs : List ℕ). sent ++ xs) n
@@ -42,12 +91,29 @@ one_more sent now before had all line next n e l =
     ∙ append_assoc had all line
     ∙ ap (λ (xs : List ℕ). had ++ xs) (sym l)
 
--- a front of the first lines is one of the whole text
-pub adds_text : (rs : List PointReply) (i front : ℕ) (old new : List ℕ) → Adds old new (lines_to rs i) → Adds old new (text rs front)
+-- pieces more, of which some stand in the buffer
+pub pieces_more : (old new lines piece had all next : List ℕ) → new ≡ old ++ (lines ++ piece) → old ++ lines ≡ had ++ all → next ≡ all ++ piece → new ≡ had ++ next
+pieces_more old new lines piece had all next n e l =
+    n
+    ∙ sym (append_assoc old lines piece)
+    ∙ ap (λ (xs : List ℕ). xs ++ piece) e
+    ∙ append_assoc had all piece
+    ∙ ap (λ (xs : List ℕ). had ++ xs) (sym l)
+
+-- and what was received of them
+pub adds_pieces : (old new lines piece had all next : List ℕ) → Adds had old all → Adds old new (lines ++ piece) → old ++ lines ≡ had ++ all → next ≡ all ++ piece → Adds had new next
+adds_pieces old new lines piece had all next a b e l =
+    adds_next had old new next (lines ++ piece)
+    (subst (λ (t : List ℕ). Adds had old t) (sym l) (adds_longer had old all piece a))
+    (pieces_more old (old ++ (lines ++ piece)) lines piece had all next refl e l)
+    b
+
+-- a front of the first replies is one of the whole text
+pub adds_text : {K : ℕ} (rs : List (Reply K)) (i front : ℕ) (old new : List ℕ) → Adds old new (text_to rs i) → Adds old new (text (group_of rs) front)
 adds_text rs i front old new a =
-    let rest = flat_map reply_line (drop i rs) in
-    let lines : lines_to rs i ++ rest ≡ lines_to rs (length rs) =
-    append_assoc (title rs) (flat_map reply_line (take i rs)) rest
-    ∙ ap (λ (xs : List ℕ). title rs ++ xs) (sym (flat_map-append reply_line (take i rs) (drop i rs)) ∙ ap (flat_map reply_line) (take-append-drop i rs ∙ sym (take_all (length rs) rs (omega arith)))) in
-    subst (λ (t : List ℕ). Adds old new t) (ap (λ (xs : List ℕ). xs ++ front_line front) lines ∙ all_lines rs (length rs) front refl)
-    (adds_longer old new (lines_to rs i ++ rest) (front_line front) (adds_longer old new (lines_to rs i) rest a))
+    let rest = flat_map reply_text (drop i rs) in
+    let lines : text_to rs i ++ rest ≡ text_to rs (length rs) =
+    append_assoc (title rs) (flat_map reply_text (take i rs)) rest
+    ∙ ap (λ (xs : List ℕ). title rs ++ xs) (sym (flat_map-append reply_text (take i rs) (drop i rs)) ∙ ap (flat_map reply_text) (take-append-drop i rs ∙ sym (take_all (length rs) rs (omega arith)))) in
+    subst (λ (t : List ℕ). Adds old new t) (ap (λ (xs : List ℕ). xs ++ front_line front) lines ∙ all_text rs (length rs) front refl)
+    (adds_longer old new (text_to rs i ++ rest) (front_line front) (adds_longer old new (text_to rs i) rest a))

@@ -5,19 +5,8 @@ use Rattle.grid_script.specs.declared.script.ScriptFault.{ScriptFault}
 use Rattle.grid_script.specs.declared.script.ScriptFault.TheVariants as fault
 use Rattle.grid_shell.specs.declared.ending.Ending.{Ending}
 use Rattle.grid_shell.specs.declared.ending.Ending.TheVariants.{Done, BadWords, BadScript, Damaged, Device, Memory, Refused}
-use Rattle.grid_shell.specs.Endings.{fault_end, status_of, with_fault_of}
+use Rattle.grid_shell.specs.Endings.{fault_end, status_of, with_fault_of, IsUnread}
 use Rattle.grid_shell.specs.Runs.{OneRose}
-
-pub outcome : {M F G A B : Type 0} → (F → G) → (A → B) → M ⊎ (F ⊎ A) → M ⊎ (G ⊎ B)
-outcome f a (inl memory) = inl memory
-outcome f a (inr (inl fault)) = inr (inl (f fault))
-outcome f a (inr (inr answered)) = inr (inr (a answered))
-
--- the same where want of memory is told in other words
-pub outcome_in : {M N F G A B : Type 0} → (M → N) → (F → G) → (A → B) → M ⊎ (F ⊎ A) → N ⊎ (G ⊎ B)
-outcome_in m f a (inl memory) = inl (m memory)
-outcome_in m f a (inr (inl fault)) = inr (inl (f fault))
-outcome_in m f a (inr (inr answered)) = inr (inr (a answered))
 
 -- the counts as they are told of other objects
 pub roses_of : (b i o : ℕ) {b' b'' i' i'' o' o'' : ℕ} → b' ≡ b'' → i' ≡ i'' → o' ≡ o'' → OneRose ((b, b') ∷ (i, i') ∷ (o, o') ∷ []) → OneRose ((b, b'') ∷ (i, i'') ∷ (o, o'') ∷ [])
@@ -26,12 +15,15 @@ roses_of b i o {b'} {b''} {i'} {i''} {o'} {o''} p q r rose =
     (subst (λ y. OneRose ((b, b') ∷ (i, y) ∷ (o, o'') ∷ [])) q
     (subst (λ z. OneRose ((b, b') ∷ (i, i') ∷ (o, z) ∷ [])) r rose))
 
--- one more count may have risen
-pub with_third : (a b c d : ℕ × ℕ) → OneRose (a ∷ b ∷ d ∷ []) → OneRose (a ∷ b ∷ c ∷ d ∷ [])
-with_third a b c d (inl rose) = inl rose
-with_third a b c d (inr (inl rose)) = inr (inl rose)
-with_third a b c d (inr (inr (inl rose))) = inr (inr (inr (inl rose)))
-with_third a b c d (inr (inr (inr none))) = absurd none
+-- how a run ends whose script was not read
+pub unread_ends : (e : Ending) → IsUnread e → ((n : ℕ) × (e ≡ BadScript n)) ⊎ (e ≡ Memory) ⊎ (e ≡ Device)
+unread_ends Done u = absurd u
+unread_ends BadWords u = absurd u
+unread_ends (BadScript n) u = inl (n, refl)
+unread_ends Damaged u = absurd u
+unread_ends Device u = inr (inr refl)
+unread_ends Memory u = inr (inl refl)
+unread_ends Refused u = absurd u
 
 -- which fault it was
 pub line_of_end : (f : ScriptFault) (n : ℕ) → fault_end f ≡ BadScript n → f ≡ fault.Line n

@@ -1,26 +1,50 @@
 -- What a session amounts to when its lines are answered and printed.
-use Rattle.std.proofs.Common.{◌≡◌, ◌++◌, ◌∙◌, ℕ, List, ap, append_assoc}
-use Rattle.grid_types.specs.declared.point.PointRequest.{PointRequest}
-use Rattle.grid_types.specs.declared.point.PointReply.{PointReply}
-use Rattle.grid_model.specs.OneBucket.{empty, answers, afterwards}
-use Rattle.grid_model.specs.PointText.{text}
+use Rattle.std.proofs.Common.{◌≡◌, ◌≤◌, ◌+◌, ◌++◌, ◌∙◌, ◌∷◌, [], ℕ, List, subst, refl, sym, ap, append_assoc, arith}
+use Rattle.grid_types.specs.declared.request.Line.{Line}
+use Rattle.grid_types.specs.declared.request.Reply.{Reply}
+use Rattle.grid_types.specs.declared.shape.Shape.{Shape}
+use Rattle.grid_model.specs.Lone.{State, made, answers, afterwards}
+use Rattle.grid_model.specs.Transcripts.{requests, groups}
+use Rattle.grid_model.specs.Text.{Group, text}
+use Rattle.grid_script.specs.Taken.{is_taken, AreTaken}
 use Rattle.grid_shell.specs.Endings.{worst_of}
-use Rattle.grid_shell.specs.Standing.{StandsAt}
-use Rattle.grid_shell.specs.Runs.{printed, left_by, IsAnswered}
+use Rattle.grid_shell.specs.Standing.{undivided, begun, worn_at, StandsFor, StandsAt}
+use Rattle.grid_shell.specs.Runs.{told, left_by, printed, group_of, IsAnswered}
+use Rattle.grid_shell.proofs.Clients.{client_one}
 
-pub session_answered : {K : ℕ} (C : ℕ) (requests : List (PointRequest K)) (had has image : List ℕ) (front status : ℕ) (replies : List PointReply) → replies ≡ answers C empty requests → StandsAt K C image front (afterwards C empty requests) → has ≡ had ++ text replies front → status ≡ worst_of replies
-    → IsAnswered C requests had has image status
-unfolding printed left_by
-session_answered C requests had has image front status replies told stands printed_all worst = record {
-  told = printed_all ∙ (λ i. had ++ text (told i) (stands.updates i));
-  stands = stands.table;
-  ends = worst ∙ ap worst_of told;
-}
+-- the replies of a caller to lines that are taken are one client's
+grouped : {K : ℕ} (shape : Shape) (s : State K) (ls : List (Line K)) → AreTaken ls → group_of (answers shape s (requests ls)) ≡ groups shape s ls
+unfolding answers
+grouped shape s [] taken = refl
+grouped shape s (l ∷ ls) taken = ap (λ c. record { client = c; replies = answers shape s (requests (l ∷ ls)) } ∷ []) (sym (client_one l (taken 0 l (omega arith))))
 
 -- the text that is printed is that of the lone caller's answers
-pub session_text : {K : ℕ} (C : ℕ) (requests : List (PointRequest K)) (image : List ℕ) (front : ℕ) (replies : List PointReply) → replies ≡ answers C empty requests → StandsAt K C image front (afterwards C empty requests) → text replies front ≡ printed C requests
-unfolding printed
-session_text C requests image front replies told stands = λ i. text (told i) (stands.updates i)
+pub session_text : {K : ℕ} (C : ℕ) (asked : List (Line K)) (image : List ℕ) (front : ℕ) (replies : List (Reply K)) → AreTaken asked → replies ≡ answers (undivided K C) (begun K) (requests asked) → StandsAt K C image front (afterwards (undivided K C) (begun K) (requests asked)) → text (group_of replies) front ≡ printed C asked
+unfolding printed left_by
+session_text {K} C asked image front replies taken is stands = λ i. text ((ap group_of is ∙ grouped (undivided K C) (begun K) asked taken) i) (stands.updates i)
+
+pub session_answered : {K : ℕ} (C : ℕ) (asked : List (Line K)) (had has image : List ℕ) (front status : ℕ) (replies : List (Reply K)) → AreTaken asked → replies ≡ answers (undivided K C) (begun K) (requests asked) → StandsAt K C image front (afterwards (undivided K C) (begun K) (requests asked)) → has ≡ had ++ text (group_of replies) front → status ≡ worst_of replies
+    → IsAnswered C asked had has image status
+unfolding told left_by
+session_answered {K} C asked had has image front status replies taken is stands printed_all worst = record {
+  text = printed_all ∙ ap (λ (t : List ℕ). had ++ t) (session_text C asked image front replies taken is stands);
+  stands = stands.table;
+  ends = worst ∙ ap worst_of is;
+}
+
+-- where a lone caller begins
+pub at_start : (K C : ℕ) (image : List ℕ) (front : ℕ) → StandsFor K C image [] → front ≡ 0 → StandsAt K C image front (begun K)
+unfolding begun made
+at_start K C image front stands zero = record { table = stands; updates = zero; layout = refl; rooted = refl; kept = refl; used = refl }
+
+-- a script is too short to wear a file out
+pub below_worn : (front n : ℕ) → front ≡ 0 → n ≤ 16777217 → front + n ≤ worn_at
+unfolding worn_at
+below_worn front n zero le = omega (arith, zero, le)
+
+-- what holds of three things holds of the same under other names
+pub carried : {A B D : Type 0} (P : A → B → D → Type 0) {a a' : A} {b b' : B} {d d' : D} → a ≡ a' → b ≡ b' → d' ≡ d → P a b d → P a' b' d'
+carried P {a} {a'} {b} {b'} {d} {d'} p q r x = subst (λ y. P y b' d') p (subst (λ y. P a y d') q (subst (λ y. P a b y) (sym r) x))
 
 -- three pieces, one after the other
 pub three_pieces : (r0 r1 r2 r3 a b c : List ℕ) → r1 ≡ r0 ++ a → r2 ≡ r1 ++ b → r3 ≡ r2 ++ c → r3 ≡ r0 ++ (a ++ (b ++ c))

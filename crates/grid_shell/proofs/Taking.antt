@@ -3,7 +3,7 @@ use Rattle.std.proofs.Common.{◌≡◌, ◌<◌, ◌≤◌, ◌+◌, ℕ, true,
 use Rattle.std.specs.Prelude.{nat_lt, MatchOption}
 use Rattle.std.proofs.lemmas.Bool.Decides.{nat_tests}
 use Rattle.grid_model.specs.Tables.{Table, get}
-use Rattle.grid_model.specs.OneBucket.{takes}
+use Rattle.grid_shell.specs.Standing.{takes}
 
 -- a key that is there is taken
 pub takes_there : (C : ℕ) (t : Table) (k d : List ℕ) → get t k ≡ Some d → true ≡ takes C t k

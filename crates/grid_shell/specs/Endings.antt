@@ -2,8 +2,8 @@
 use Rattle.std.specs.Prelude.{ℕ, ◌++◌, List, [], ◌∷◌, codes, decimal, max, ⊤}
 use Rattle.grid_types.specs.declared.refusal.Refusal.{Refusal}
 use Rattle.grid_types.specs.declared.refusal.Refusal.TheVariants as refusal
-use Rattle.grid_types.specs.declared.point.PointReply.{PointReply}
-use Rattle.grid_types.specs.declared.point.PointReply.TheVariants as reply
+use Rattle.grid_types.specs.declared.request.Reply.{Reply}
+use Rattle.grid_types.specs.declared.request.Reply.TheVariants as reply
 use Rattle.grid_script.specs.declared.script.ScriptFault.{ScriptFault}
 use Rattle.grid_script.specs.declared.script.ScriptFault.TheVariants as fault
 use Rattle.grid_shell.specs.declared.ending.Ending.{Ending}
@@ -59,6 +59,26 @@ HasBegun Device = ⊤
 HasBegun Memory = ⊤
 HasBegun Refused = ⊤
 
+-- an end of a run that prints nothing
+abbrev pub IsSilent : Ending → Type 0
+IsSilent Done = ⊥
+IsSilent BadWords = ⊤
+IsSilent (BadScript line) = ⊤
+IsSilent Damaged = ⊥
+IsSilent Device = ⊤
+IsSilent Memory = ⊤
+IsSilent Refused = ⊥
+
+-- an end of a run whose script was not read
+abbrev pub IsUnread : Ending → Type 0
+IsUnread Done = ⊥
+IsUnread BadWords = ⊥
+IsUnread (BadScript line) = ⊤
+IsUnread Damaged = ⊥
+IsUnread Device = ⊤
+IsUnread Memory = ⊤
+IsUnread Refused = ⊥
+
 -- the end that a refused line makes; of a fault of the disk it is the count that tells
 abbrev pub refusal_end : Refusal → Ending
 refusal_end refusal.NoMemory = Memory
@@ -78,13 +98,12 @@ refusal_end (refusal.Worn count) = Refused
 refusal_end (refusal.Arity found) = Damaged
 
 -- the end that a line makes
-abbrev pub line_end : PointReply → Ending
-line_end (reply.Put a) = Done
-line_end (reply.Got a) = Done
+abbrev pub line_end : {K : ℕ} → Reply K → Ending
 line_end (reply.Refused why) = refusal_end why
+line_end _ = Done
 
 -- the greatest status that some lines make
-unfoldable pub worst_of : List PointReply → ℕ
+unfoldable pub worst_of : {K : ℕ} → List (Reply K) → ℕ
 worst_of [] = 0
 worst_of (r ∷ rs) = max (status_of (line_end r)) (worst_of rs)
 

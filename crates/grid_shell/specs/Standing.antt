@@ -1,15 +1,70 @@
 -- What the file of one bucket stands for.
-use Rattle.std.specs.Prelude.{◌≡◌, ◌⊎◌, ℕ, List}
+use Rattle.std.specs.Prelude.{◌≡◌, ◌⊎◌, ℕ, ◌^◌, List, [], Bool, ◌||◌, true, false, Option, is_some, nat_lt, length}
 use Rattle.grid_types.specs.Keys.{IsKey}
 use Rattle.grid_types.specs.Regions.{Within}
+use Rattle.grid_types.specs.Pages.{page_of}
+use Rattle.grid_types.specs.declared.shape.Shape.{Shape}
 use Rattle.grid_types.specs.declared.refusal.Refusal.{Refusal}
 use Rattle.grid_types.specs.declared.refusal.Refusal.TheVariants.{ReadFault, WriteFault, Damaged, NoCut, Worn}
-use Rattle.grid_model.specs.Tables.{Table, entries_of}
-use Rattle.grid_model.specs.OneBucket.{Lone}
+use Rattle.grid_model.specs.Tables.{Table, get, with_data, entries_of}
+use Rattle.grid_model.specs.Layouts.{new_layout}
+use Rattle.grid_model.specs.Lone.{Owners, State, made}
 use Rattle.disk_trait.specs.Causes.{Rose}
-use Rattle.grid_types.specs.Pages.{page_of}
 use Rattle.bucket_page.specs.declared.bucket.Bucket.{Bucket}
-use Rattle.bucket_page.specs.Spelling.{Spells}
+use Rattle.bucket_page.specs.Spelling.{spelling, Spells}
+
+-- the number of updates at which a file is worn
+unfoldable pub worn_at : ℕ
+worn_at = 2 ^ 62
+
+-- the shape of the file of today: one bucket, since no scale may have a boundary, and no journal whose slots are ever used up
+unfoldable pub undivided : ℕ → ℕ → Shape
+undivided K capacity = record { k = K; capacity = capacity; pages = 64; slots = worn_at; boundaries = 0; cells = 10 ^ 6 }
+
+-- no owners
+abbrev pub nobody : Owners
+nobody = record { buckets = []; parts = [] }
+
+-- a lone caller's state over a new file, of which nothing is part of a root
+unfoldable pub begun : (K : ℕ) → State K
+begun K = record (made K) { rooted = nobody }
+
+-- a bucket of this capacity takes a key where it has the key, or has room
+unfoldable pub takes : ℕ → Table → List ℕ → Bool
+takes capacity t k = is_some (get t k) || nat_lt (length t) capacity
+
+-- a page is the expected one for a key where it spells bucket 0, with a region that has the key
+pub record IsExpected (K capacity : ℕ) (page key : List ℕ) (b : Bucket K) : Type 0 where
+  pub spelled : Spells K capacity page b
+  pub zero : b.number ≡ 0
+  pub inside : Within b.region.lo b.region.hi key
+
+-- a page is damaged for a key where it is the expected one with no bucket
+abbrev pub IsDamaged : ℕ → ℕ → List ℕ → List ℕ → Type 0
+IsDamaged K capacity page key = (b : Bucket K) → IsExpected K capacity page key b → ⊥
+
+-- a page answers a key where it is the expected one, with a bucket that has this data at the key
+pub record Answers (K capacity : ℕ) (page key : List ℕ) (value : Option (List ℕ)) : Type 0 where
+  pub bucket : Bucket K
+  pub expected : IsExpected K capacity page key bucket
+  pub found : value ≡ get (entries_of bucket.rows.items) key
+
+-- a page holds a put where it is that of a bucket with the record put, in place of a bucket that had this data at the key
+pub record HoldsPut (K capacity : ℕ) (page key new : List ℕ) (old : Option (List ℕ)) : Type 0 where
+  pub is_key : IsKey K key
+  pub before : Bucket K
+  pub found : old ≡ get (entries_of before.rows.items) key
+  pub taken : takes capacity (entries_of before.rows.items) key ≡ true
+  pub after : Bucket K
+  pub rows : entries_of after.rows.items ≡ with_data (entries_of before.rows.items) key new
+  pub written : page ≡ spelling K after
+
+-- a page is full for a key where it is the expected one, with a bucket that does not take the key
+pub record IsFull (K capacity : ℕ) (page key : List ℕ) : Type 0 where
+  pub is_key : IsKey K key
+  pub bucket : Bucket K
+  pub expected : IsExpected K capacity page key bucket
+  pub full : takes capacity (entries_of bucket.rows.items) key ≡ false
 
 -- an image has a bucket where its page 0 spells it, as bucket 0
 pub record HasBucket (K capacity : ℕ) (image : List ℕ) (b : Bucket K) : Type 0 where
@@ -31,7 +86,11 @@ IsDiskFault e reads_before reads_now writes_before writes_now = ((e ≡ ReadFaul
 abbrev pub CanRefuse : ℕ → Refusal → Type 0
 CanRefuse front e = (e ≡ ReadFault) ⊎ (e ≡ WriteFault) ⊎ (e ≡ Damaged 0) ⊎ (e ≡ NoCut 1 0) ⊎ (e ≡ Worn front)
 
--- an image and a count of updates stand for a lone caller where the image stands for its table, and the count is its front
-pub record StandsAt (K capacity : ℕ) (image : List ℕ) (front : ℕ) (s : Lone) : Type 0 where
+-- an image and a count of updates stand for a lone caller over the one bucket: the image for its table, the count is its front, nothing was divided, nothing is part of a root, and each update used a slot
+pub record StandsAt (K capacity : ℕ) (image : List ℕ) (front : ℕ) (s : State K) : Type 0 where
   pub table : StandsFor K capacity image s.table
   pub updates : front ≡ s.front
+  pub layout : s.layout ≡ new_layout K
+  pub rooted : s.rooted ≡ nobody
+  pub kept : s.kept ≡ 0
+  pub used : s.used ≡ s.front

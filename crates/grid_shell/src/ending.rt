@@ -3,7 +3,7 @@ ghost use Rattle.std.specs.Prelude.{◌≡◌, max};
 ghost use Rattle.grid_shell.specs.Endings.{status_of, with_fault_of, refusal_end, fault_end, line_end, worst_of, IsLineEnd, HasBegun};
 
 use grid_script::ScriptFault;
-use grid_types::{PointReply, Refusal};
+use grid_types::{Refusal, Reply};
 
 /// How a run ends. Each end has a status of its own, and later ones have greater statuses.
 #[derive(Clone, Copy, Debug, PartialEq, Eq)]
@@ -96,18 +96,24 @@ impl Ending {
         }
     }
 
-    fn of_line(reply: &PointReply) -> Ending
+    fn of_line<const K: usize>(reply: &Reply<K>) -> Ending
         ensures value { result ≡ line_end reply.now }
         ensures line { IsLineEnd result }
     {
         match reply {
-            PointReply::Put(_) | PointReply::Got(_) => Ending::Done,
-            PointReply::Refused(refusal) => Ending::of_refusal(refusal),
+            Reply::Put(_)
+            | Reply::Removed(_)
+            | Reply::Got(_)
+            | Reply::Listed(_)
+            | Reply::Counted(_)
+            | Reply::Stood(_)
+            | Reply::Rooted(_) => Ending::Done,
+            Reply::Refused(refusal) => Ending::of_refusal(refusal),
         }
     }
 
     /// The end of greatest status that the lines make.
-    pub fn worst(replies: &[PointReply]) -> Ending
+    pub fn worst<const K: usize>(replies: &[Reply<K>]) -> Ending
         ensures status { status_of result ≡ worst_of replies.now }
         ensures line { IsLineEnd result }
     {

@@ -1,6 +1,7 @@
 //! The script, taken from a source.
 ghost use Rattle.std.specs.Prelude.{◌≡◌, ◌≤◌, ◌<◌, ◌+◌, ◌^◌, [], IsTrue, IsErrOf, IfOk, IfErr, OnErr, length, take, drop, vec_len};
 ghost use Rattle.disk_trait.specs.Causes.{Rose};
+ghost use Rattle.grid_shell.specs.Runs.{LostAtMost};
 
 use disk_trait::{Source, SourceFailed};
 use std::alloc::{AllocError, Global};
@@ -23,6 +24,7 @@ pub fn read_all<S: Source>(
 ) -> Result<Vec<u8>, InputFault>
     ensures bytes { IsTrue (S.tells source.old) → IfOk result (λ v. v.items ≡ take most (S.left source.old)) }
     ensures bound { IfOk result (λ v. vec_len v ≤ most) }
+    ensures lost { IsTrue (S.tells source.old) → LostAtMost most (S.left source.old) (S.left source.new) }
     ensures later { S.fault_count source.old ≤ S.fault_count source.new }
     ensures failed { IsErrOf result InputFault.Source → Rose (S.fault_count source.old) (S.fault_count source.new) }
 {

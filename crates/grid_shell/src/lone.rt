@@ -1,14 +1,14 @@
 //! A lone caller over a file of one bucket, which nothing divides.
-ghost use Rattle.std.specs.Prelude.{◌≡◌, ◌≢◌, ◌≤◌, ◌<◌, ◌+◌, ◌⊎◌, [], List, ℕ, true, false, is_some, IsTrue, IfSome, OnSome, IfOk, IfErr, OnOk, OnErr, IsErrOf, length};
+ghost use Rattle.std.specs.Prelude.{◌≡◌, ◌≢◌, ◌≤◌, ◌<◌, ◌+◌, ◌⊎◌, ◌↔◌, [], List, ℕ, true, false, is_some, IsTrue, IfSome, OnSome, IfOk, IfErr, OnOk, OnErr, IsErrOf, length};
+ghost use Rattle.grid_types.specs.Keys.{IsKey};
 ghost use Rattle.grid_types.specs.Regions.{Within};
 ghost use Rattle.grid_types.specs.declared.refusal.Refusal.TheVariants.{ReadFault, WriteFault, Damaged, NoCut, Worn};
 ghost use Rattle.grid_model.specs.Tables.{Table, get, with_data, entries_of};
-ghost use Rattle.grid_model.specs.OneBucket.{takes};
 ghost use Rattle.disk_trait.specs.Causes.{HasCause, Rose};
 ghost use Rattle.bucket_page.specs.declared.bucket.Bucket.{Bucket};
 ghost use Rattle.bucket_page.specs.Spelling.{IsBucket, spelling};
 ghost use Rattle.grid_types.specs.Pages.{page_of};
-ghost use Rattle.grid_shell.specs.Standing.{HasBucket, StandsFor, CanRefuse};
+ghost use Rattle.grid_shell.specs.Standing.{takes, worn_at, IsExpected, IsDamaged, IsFull, Answers, HoldsPut, HasBucket, StandsFor, CanRefuse};
 
 use arrayvec::ArrayVec;
 use bucket_page::{Bucket, decode, encode};
@@ -26,7 +26,8 @@ pub struct Lone<D: Disk> {
     pub capacity: u16,
     /// How many updates were made.
     pub front: u64,
-    page: [u8; 4096],
+    /// The bytes that were read or written last.
+    pub page: [u8; 4096],
     ghost has_page: { 4096 ≤ D.extent disk },
     ghost lawful: { capacity ≤ 48 },
 }
@@ -124,9 +125,12 @@ impl<D: Disk> Lone<D> {
         requires { K ≤ 4 }
         ensures ticks { steps.new ≡ steps.old + 1 }
         ensures lawful { IfOk result (λ b. IsBucket K self.old.capacity b) }
+        ensures key { OnOk result (IsKey K key.now.at) }
+        ensures expected { IfOk result (λ b. IsExpected K self.old.capacity self.new.page key.now.at b) }
+        ensures damaged { IsErrOf result (Damaged 0) → IsDamaged K self.old.capacity self.new.page key.now.at }
         ensures found { IsTrue (D.honest self.old.disk) → IfOk result (λ b. HasBucket K self.old.capacity (D.seen self.old.disk) b × Within b.region.lo b.region.hi key.now.at) }
         ensures only { IsTrue (D.honest self.old.disk) → (b : Bucket K) → HasBucket K self.old.capacity (D.seen self.old.disk) b → IfOk result (λ r. r ≡ b) }
-        ensures damaged { IsTrue (D.honest self.old.disk) → IsErrOf result (Damaged 0) → (b : Bucket K) → HasBucket K self.old.capacity (D.seen self.old.disk) b → Within b.region.lo b.region.hi key.now.at → ⊥ }
+        ensures bytes { IsTrue (D.honest self.old.disk) → (IsErrOf result ReadFault → ⊥) → self.new.page ≡ page_of 0 (D.seen self.old.disk) }
         ensures undamaged { IsTrue (D.honest self.old.disk) → IsErrOf result (Damaged 0) → (t : Table) → StandsFor K self.old.capacity (D.seen self.old.disk) t → ⊥ }
         ensures read_fault { IsErrOf result ReadFault → Rose (D.read_count self.old.disk) (D.read_count self.new.disk) }
         ensures no_other { IfErr result (λ e. (e ≡ ReadFault) ⊎ (e ≡ Damaged 0)) }
@@ -155,6 +159,7 @@ impl<D: Disk> Lone<D> {
     fn rewrite<const K: usize>(&mut self, bucket: &Bucket<K>) -> Result<(), DiskFailed>
         requires few { K ≤ 4 }
         requires fits { length bucket.now.rows.items ≤ self.old.capacity }
+        ensures page { self.new.page ≡ spelling K bucket.now }
         ensures written { IsTrue (D.honest self.old.disk) → OnOk result (page_of 0 (D.seen self.new.disk) ≡ spelling K bucket.now) }
         ensures cause { HasCause (D.write_count self.old.disk) (D.write_count self.new.disk) result }
         ensures other { D.read_count self.old.disk ≤ D.read_count self.new.disk }
@@ -177,7 +182,10 @@ impl<D: Disk> Lone<D> {
         requires { K ≤ 4 }
         ensures at { IfOk result (λ a. a.at ≡ self.old.front) }
         ensures value { IsTrue (D.honest self.old.disk) → (t : Table) → StandsFor K self.old.capacity (D.seen self.old.disk) t → IfOk result (λ a. a.value ≡ get t key.now.at) }
-        ensures damaged { IsTrue (D.honest self.old.disk) → IsErrOf result (Damaged 0) → (t : Table) → StandsFor K self.old.capacity (D.seen self.old.disk) t → ⊥ }
+        ensures answers { IfOk result (λ a. Answers K self.old.capacity self.new.page key.now.at a.value) }
+        ensures damaged { IsErrOf result (Damaged 0) → IsDamaged K self.old.capacity self.new.page key.now.at }
+        ensures undamaged { IsTrue (D.honest self.old.disk) → IsErrOf result (Damaged 0) → (t : Table) → StandsFor K self.old.capacity (D.seen self.old.disk) t → ⊥ }
+        ensures bytes { IsTrue (D.honest self.old.disk) → (IsErrOf result ReadFault → ⊥) → self.new.page ≡ page_of 0 (D.seen self.old.disk) }
         ensures read_fault { IsErrOf result ReadFault → Rose (D.read_count self.old.disk) (D.read_count self.new.disk) }
         ensures no_other { IfErr result (λ e. (e ≡ ReadFault) ⊎ (e ≡ Damaged 0)) }
         ensures one_read { steps.new ≡ steps.old + 1 }
@@ -197,6 +205,7 @@ impl<D: Disk> Lone<D> {
 
     /// Puts a record, read and rewritten in place. A key that the bucket does not take is refused, since nothing divides
     /// it; a refusal other than a failed write leaves the file as it was.
+    #[tactic(auto, unfolding(crate::specs::Standing::worn_at))]
     pub fn put<const K: usize, L: Ledger>(
         &mut self,
         row: &Record<K>,
@@ -208,8 +217,12 @@ impl<D: Disk> Lone<D> {
         ensures taken { IsTrue (D.honest self.old.disk) → (t : Table) → StandsFor K self.old.capacity (D.seen self.old.disk) t → OnOk result (takes self.old.capacity t row.now.key.at ≡ true) }
         ensures stands { IsTrue (D.honest self.old.disk) → (t : Table) → StandsFor K self.old.capacity (D.seen self.old.disk) t → OnOk result (StandsFor K self.old.capacity (D.seen self.new.disk) (with_data t row.now.key.at row.now.value)) }
         ensures no_cut { IsTrue (D.honest self.old.disk) → (t : Table) → StandsFor K self.old.capacity (D.seen self.old.disk) t → IsErrOf result (NoCut 1 0) → takes self.old.capacity t row.now.key.at ≡ false }
-        ensures damaged { IsTrue (D.honest self.old.disk) → IsErrOf result (Damaged 0) → (t : Table) → StandsFor K self.old.capacity (D.seen self.old.disk) t → ⊥ }
-        ensures worn { (n : ℕ) → IsErrOf result (Worn n) → (n ≡ self.old.front) × (WORN ≤ self.old.front) }
+        ensures holds { IfOk result (λ a. HoldsPut K self.old.capacity self.new.page row.now.key.at row.now.value a.value) }
+        ensures full { IsErrOf result (NoCut 1 0) → IsFull K self.old.capacity self.new.page row.now.key.at }
+        ensures damaged { IsErrOf result (Damaged 0) → IsDamaged K self.old.capacity self.new.page row.now.key.at }
+        ensures undamaged { IsTrue (D.honest self.old.disk) → IsErrOf result (Damaged 0) → (t : Table) → StandsFor K self.old.capacity (D.seen self.old.disk) t → ⊥ }
+        ensures worn { (n : ℕ) → IsErrOf result (Worn n) → (n ≡ self.old.front) × (worn_at ≤ self.old.front) }
+        ensures unworn { worn_at ≤ self.old.front → IsErrOf result (Worn self.old.front) }
         ensures read_fault { IsErrOf result ReadFault → Rose (D.read_count self.old.disk) (D.read_count self.new.disk) }
         ensures write_fault { IsErrOf result WriteFault → Rose (D.write_count self.old.disk) (D.write_count self.new.disk) }
         ensures no_other { IfErr result (CanRefuse self.old.front) }
@@ -243,6 +256,13 @@ impl<D: Disk> Lone<D> {
             at: self.front,
             value,
         })
+    }
+
+    /// Whether a call of the disk has counted a failure since the disk was handed out.
+    pub fn has_failed(&self) -> bool
+        ensures { IsTrue result ↔ ((D.read_count self.now.disk ≢ 0) ⊎ (D.write_count self.now.disk ≢ 0)) }
+    {
+        self.disk.read_faults() != 0 || self.disk.write_faults() != 0
     }
 
     /// Gives the disk back.

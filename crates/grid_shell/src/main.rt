@@ -11,6 +11,7 @@ mod session;
 mod telling;
 #[cfg(test)]
 mod tests;
+mod work;
 
 use disk_file::{FileBay, StreamSink, StreamSource};
 use disk_trait::Sink;

@@ -1,13 +1,14 @@
 //! What a run prints, through one buffer of fixed size.
-ghost use Rattle.std.specs.Prelude.{◌≡◌, ◌≤◌, ◌+◌, ◌++◌, IsTrue, OnOk};
+ghost use Rattle.std.specs.Prelude.{◌≡◌, ◌≤◌, ◌+◌, ◌++◌, IsTrue, OnOk, flat_map};
 ghost use Rattle.arrayvec.specs.ArrayVec.{array_vec_len};
-ghost use Rattle.grid_model.specs.PointText.{text};
+ghost use Rattle.grid_model.specs.Text.{text, reply_lines, ended};
 ghost use Rattle.disk_trait.specs.Causes.{HasCause};
 ghost use Rattle.disk_trait.specs.Streams.{Adds};
+ghost use Rattle.grid_shell.specs.Runs.{group_of};
 
 use disk_trait::{Sink, SinkFailed, put_all};
-use grid_script::{LINE, Text, print_client, print_front, print_reply};
-use grid_types::PointReply;
+use grid_script::{LINE, Text, add_client, add_first, add_front, add_row, rows_of};
+use grid_types::Reply;
 
 /// Gives the lines to the sink where there is no room for one more.
 fn make_room<O: Sink>(out: &mut O, lines: &mut Text) -> Result<(), SinkFailed>
@@ -29,24 +30,54 @@ fn make_room<O: Sink>(out: &mut O, lines: &mut Text) -> Result<(), SinkFailed>
     }
 }
 
+/// Adds the lines of a reply, behind those that are there.
+fn print_reply<const K: usize, O: Sink>(
+    out: &mut O,
+    reply: &Reply<K>,
+    lines: &mut Text,
+) -> Result<(), SinkFailed>
+    requires { K ≤ 4 }
+    ensures kept { IsTrue (O.tells out.old) → OnOk result (O.received out.new ++ lines.new.items ≡ O.received out.old ++ (lines.old.items ++ flat_map ended (reply_lines reply.now))) }
+    ensures front { IsTrue (O.tells out.old) → Adds (O.received out.old) (O.received out.new) (lines.old.items ++ flat_map ended (reply_lines reply.now)) }
+    ensures tells { O.tells out.new ≡ O.tells out.old }
+    ensures cause { HasCause (O.fault_count out.old) (O.fault_count out.new) result }
+{
+    match make_room(out, lines) {
+        Ok(()) => add_first(reply, lines),
+        Err(SinkFailed) => return Err(SinkFailed),
+    }
+    for row in rows_of(reply) {
+        match make_room(out, lines) {
+            Ok(()) => add_row(row, lines),
+            Err(SinkFailed) => return Err(SinkFailed),
+        }
+    }
+    Ok(())
+}
+
 /// Prints the replies and the front. Where it fails the sink has received a front of them.
-pub fn print_all<O: Sink>(out: &mut O, replies: &[PointReply], front: u64) -> Result<(), SinkFailed>
-    ensures printed { IsTrue (O.tells out.old) → OnOk result (O.received out.new ≡ O.received out.old ++ text replies.now front) }
-    ensures front { IsTrue (O.tells out.old) → Adds (O.received out.old) (O.received out.new) (text replies.now front) }
+pub fn print_all<const K: usize, O: Sink>(
+    out: &mut O,
+    replies: &[Reply<K>],
+    front: u64,
+) -> Result<(), SinkFailed>
+    requires { K ≤ 4 }
+    ensures printed { IsTrue (O.tells out.old) → OnOk result (O.received out.new ≡ O.received out.old ++ text (group_of replies.now) front) }
+    ensures front { IsTrue (O.tells out.old) → Adds (O.received out.old) (O.received out.new) (text (group_of replies.now) front) }
     ensures cause { HasCause (O.fault_count out.old) (O.fault_count out.new) result }
 {
     let mut lines = Text::new();
     if !replies.is_empty() {
-        print_client(&mut lines);
+        add_client(1, &mut lines);
     }
     for reply in replies {
-        match make_room(out, &mut lines) {
-            Ok(()) => print_reply(reply, &mut lines),
+        match print_reply(out, reply, &mut lines) {
+            Ok(()) => {}
             Err(SinkFailed) => return Err(SinkFailed),
         }
     }
     match make_room(out, &mut lines) {
-        Ok(()) => print_front(front, &mut lines),
+        Ok(()) => add_front(front, &mut lines),
         Err(SinkFailed) => return Err(SinkFailed),
     }
     put_all(out, lines.as_slice())

@@ -1,5 +1,5 @@
 //! Worked scripts, right and wrong, and printed replies.
 
-mod points;
 mod printing;
 mod reading;
+mod taking;

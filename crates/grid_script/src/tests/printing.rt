@@ -92,3 +92,21 @@ fn prints_replies(rt: HostRuntime) {
         assert_eq!(rt; text.as_slice(), want.as_bytes());
     }
 }
+
+#[test]
+fn adds_lines(rt: HostRuntime) {
+    let listed = rows(rt.alloc()).expect(&rt, "memory");
+    let reply = Reply::<2>::Listed(Answer {
+        at: 9,
+        value: listed,
+    });
+    let mut out = Text::new();
+    add_client(12, &mut out);
+    add_first(&reply, &mut out);
+    for row in rows_of(&reply) {
+        add_row(row, &mut out);
+    }
+    add_front(21, &mut out);
+    let want = b"client 12\n@9 rows 2\n1,2 0aff\n18446744073709551615,0 -\nfront 21\n";
+    assert_eq!(rt; out.as_slice(), want.as_slice());
+}

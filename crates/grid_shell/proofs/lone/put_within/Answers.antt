@@ -1,7 +1,7 @@
 use Rattle.std.proofs.Common.{◌∙◌, ◌≡◌, true, sym}
 use Rattle.std.proofs.lemmas.List.{length-map}
 use Rattle.grid_model.specs.Tables.{entry, entries_of}
-use Rattle.grid_model.specs.OneBucket.{takes}
+use Rattle.grid_shell.specs.Standing.{takes}
 use Rattle.grid_shell.proofs.Taking.{count_within}
 use Rattle.grid_shell.proofs.lone.put_within.Goals as goal
 

@@ -4,10 +4,10 @@ use Rattle.grid_shell.proofs.Worst.{worst_none, worst_more}
 use Rattle.grid_shell.proofs.ending.Ending.worst.Goals as goal
 
 pub loop-reply-init : goal.loop-reply-init
-loop-reply-init c = record { status = sym worst_none; line = tt }
+loop-reply-init g c = record { status = sym (worst_none g.row.K); line = tt }
 
 pub loop-reply-preserved : goal.loop-reply-preserved
-loop-reply-preserved c =
+loop-reply-preserved g c =
     let end = c.of_line.ensures.value ∙ ap line_end c.reply-item.is in
     record {
       status = c.or_worse-worst.ensures.status

@@ -4,8 +4,8 @@ use Rattle.grid_types.specs.declared.refusal.Refusal.TheVariants.{Damaged}
 use Rattle.grid_shell.proofs.Errors.{same_error}
 use Rattle.grid_shell.proofs.lone.Lone.put.Goals as goal
 
-pub returns-in-Err-clause-damaged : goal.returns-in-Err-clause-damaged
-returns-in-Err-clause-damaged g c = λ h e t s. c.in-Err.ensures.undamaged h (same_error c.in-Err.refusal (Damaged 0) e) t s
+pub returns-in-Err-clause-undamaged : goal.returns-in-Err-clause-undamaged
+returns-in-Err-clause-undamaged g c = λ h e t s. c.in-Err.ensures.undamaged h (same_error c.in-Err.refusal (Damaged 0) e) t s
 
 pub returns-clause-stands : goal.returns-clause-stands
 returns-clause-stands g c = λ h t s.

@@ -1,8 +1,8 @@
 use Rattle.std.proofs.Common.{◌≡◌, ◌+◌, length, map, sym, ap, subst, ◌∙◌, arith}
 use Rattle.std.proofs.lemmas.Bool.{eqb-true}
 use Rattle.grid_model.specs.Script.{meaning, meanings}
-use Rattle.grid_script.proofs.Untaken.{Stops, Follows, follows-start, follows-more, stops-here, first-of, all-taken}
-use Rattle.grid_script.proofs.point_script.first_untaken.Goals as goal
+use Rattle.grid_script.proofs.Taking.{Stops, Follows, follows-start, follows-more, stops-here, first-of, all-taken}
+use Rattle.grid_script.proofs.taken.first_untaken.Goals as goal
 
 pub loop-rest-init : goal.loop-rest-init
 loop-rest-init g c = record { some = omega arith; room = omega arith; follows = follows-start (meanings g.row.K c.args.bytes.now) }

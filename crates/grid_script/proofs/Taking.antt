@@ -1,21 +1,20 @@
 -- The lines of a script that the program takes, and the first that it does not.
 use Rattle.std.proofs.lemmas.List.{length-map}
+use Rattle.std.proofs.lemmas.Bool.Decides.{nat_tests}
 use Rattle.std.proofs.lemmas.List.FromFn.{length-range_with_len}
-use Rattle.std.proofs.Common.{◌==◌, cond, nat_le, leb-true, leb-false, eqb-true, Result, ◌≡◌, ◌<◌, ◌≤◌, ◌+◌, ◌-◌, inl, inr, ℕ, zero, suc, Bool, true, false, List, [], ◌∷◌, map, length, Option, Some, None, IsSome, Ok, Err, refl, sym, ap, subst, ◌∙◌, arith, true≢false, slice_get}
+use Rattle.std.proofs.Common.{◌==◌, cond, nat_le, leb-true, leb-false, eqb-true, Result, ◌≡◌, ◌<◌, ◌≤◌, ◌+◌, ◌-◌, ◌⊎◌, ⊎_elim, inl, inr, ℕ, zero, suc, Bool, true, false, List, [], ◌∷◌, map, length, Option, Some, None, IsTrue, Ok, Err, refl, sym, ap, subst, ◌∙◌, arith, true≢false, slice_get}
 use Rattle.std.specs.Prelude.{filter_map}
 use Rattle.std.specs.List.{Contains, range_with_len, cons_option}
 use Rattle.std.specs.Option.{is_some, option_and_then}
-use Rattle.grid_types.specs.declared.point.PointRequest.{PointRequest}
 use Rattle.grid_types.specs.declared.request.Line.{Line}
 use Rattle.grid_model.specs.Lists.{below}
 use Rattle.grid_model.specs.Script.{Meaning, meaning, lines, lines_of, onto_first, meanings, longest}
 use Rattle.grid_model.specs.ScriptLaws.{line_at, line_of, speaker, speaker_at}
-use Rattle.grid_model.specs.PointScript.{taken, IsScript, FirstUntaken, IsFault}
 use Rattle.grid_model.proofs.Reading.{one-script, said}
 use Rattle.grid_model.proofs.Boxes.{one-value}
 use Rattle.grid_script.specs.declared.script.ScriptFault.{ScriptFault}
 use Rattle.grid_script.specs.declared.script.ScriptFault.TheVariants as fault
-use Rattle.grid_script.specs.Untaken.{AllTaken, Passes}
+use Rattle.grid_script.specs.Taken.{is_taken, AreTaken, IsScript, FirstUntaken, IsUntakenAt, IsFault, TakesAll, Passes}
 
 -- what a text has of lines, and what stands in a list
 ok-not-err : {X E : Type 0} (x : X) (e : E) → Ok x ≡ Err e → ⊥
@@ -24,22 +23,6 @@ ok-not-err x e p = cc
 abbrev pub error-or : {X E : Type 0} → E → Result X E → E
 error-or d (Ok x) = d
 error-or d (Err e) = e
-
-abbrev value-or : {X E : Type 0} → X → Result X E → X
-value-or d (Ok x) = x
-value-or d (Err e) = d
-
-abbrev is-nil : {X : Type 0} → List X → Bool
-is-nil [] = true
-is-nil (x ∷ xs) = false
-
-abbrev head-or : {X : Type 0} → X → List X → X
-head-or d [] = d
-head-or d (x ∷ xs) = x
-
-abbrev tail-of : {X : Type 0} → List X → List X
-tail-of [] = []
-tail-of (x ∷ xs) = xs
 
 got-inside : {X : Type 0} (xs : List X) (i : ℕ) (x : X) → slice_get xs i ≡ Some x → i < length xs
 got-inside [] i x e = absurd (true≢false (sym (ap is_some e)))
@@ -60,17 +43,20 @@ few-lines (b ∷ bs) = by (b == 10) (few-lines bs)
     by true h = omega (arith, h)
     by false h = few-onto b (lines_of bs) (length bs) h
 
+apart : (n m : ℕ) → (n == m) ≡ false → (n < m) ⊎ (m < n)
+apart n m e = grind (arith, nat_tests)
+
 module _ {K : ℕ} where
   -- the program takes what each line asks, where a client spoke before the first
   abbrev pub Takes : ℕ → List (Meaning K) → Type 0
-  Takes client ms = (i : ℕ) (l : Line K) → said client ms i ≡ Some l → IsSome (taken l)
+  Takes client ms = (i : ℕ) (l : Line K) → said client ms i ≡ Some l → IsTrue (is_taken l)
 
   -- line j is the first that it does not take
   pub record Stops (client : ℕ) (ms : List (Meaning K)) (j : ℕ) : Type 0 where
     pub line : Line K
     pub there : said client ms j ≡ Some line
-    pub untaken : taken line ≡ None
-    pub before : (i : ℕ) (l : Line K) → i < j → said client ms i ≡ Some l → IsSome (taken l)
+    pub untaken : is_taken line ≡ false
+    pub before : (i : ℕ) (l : Line K) → i < j → said client ms i ≡ Some l → IsTrue (is_taken l)
 
   -- behind a line that passes all are taken where the rest is
   pub takes-more : (client : ℕ) (m : Meaning K) (ms : List (Meaning K)) → Passes (line_of client m) → Takes (speaker client m) ms → Takes client (m ∷ ms)
@@ -81,7 +67,7 @@ module _ {K : ℕ} where
   pub stops-later : (client : ℕ) (m : Meaning K) (ms : List (Meaning K)) (j : ℕ) → Passes (line_of client m) → Stops (speaker client m) ms j → Stops client (m ∷ ms) (suc j)
   stops-later client m ms j p h = record { line = h.line; there = h.there; untaken = h.untaken; before = before }
     where
-      before : (i : ℕ) (l : Line K) → i < suc j → said client (m ∷ ms) i ≡ Some l → IsSome (taken l)
+      before : (i : ℕ) (l : Line K) → i < suc j → said client (m ∷ ms) i ≡ Some l → IsTrue (is_taken l)
       before zero l q e = p l e
       before (suc i) l q e = h.before i l (omega (arith, q)) e
 
@@ -110,7 +96,7 @@ module _ {K : ℕ} where
       later j = omega (arith, some)
 
   -- the line at which it stops
-  pub stops-here : (client : ℕ) (m : Meaning K) (ms : List (Meaning K)) (l : Line K) → line_of client m ≡ Some l → taken l ≡ None → Stops client (m ∷ ms) 0
+  pub stops-here : (client : ℕ) (m : Meaning K) (ms : List (Meaning K)) (l : Line K) → line_of client m ≡ Some l → is_taken l ≡ false → Stops client (m ∷ ms) 0
   stops-here client m ms l e none = record { line = l; there = e; untaken = none; before = λ i x q f. absurd (omega (arith, q)) }
 
   pub first-of : (bytes : List ℕ) (number : ℕ) → 1 ≤ number → Stops 1 (meanings K bytes) (number - 1 + 0) → FirstUntaken K bytes number
@@ -136,10 +122,10 @@ module _ {K : ℕ} where
       by (Some m) e (suc k, p, q) rest = rest (k, omega (arith, p), q)
 
   -- no line of a script is untaken where all lines are taken
-  pub none-untaken : (bytes : List ℕ) (asked : List (Line K)) (l : Line K) → length bytes ≤ longest → lines K bytes ≡ Ok asked → AllTaken K bytes → Contains asked l → taken l ≡ None → ⊥
+  pub none-untaken : (bytes : List ℕ) (asked : List (Line K)) (l : Line K) → length bytes ≤ longest → lines K bytes ≡ Ok asked → TakesAll K bytes → Contains asked l → is_taken l ≡ false → ⊥
   none-untaken bytes asked l short read all c none =
       let made = made-of (line_at (meanings K bytes)) (below (length (meanings K bytes))) l (subst (λ ls. Contains ls l) (((one-script {K = K}).whole bytes asked short).0 read).1 c) in
-      true≢false (sym (all made.0 l made.1) ∙ ap is_some none)
+      true≢false (sym (all made.0 l made.1) ∙ none)
 
   empty-takes : (client : ℕ) (rest : List ℕ) → length rest ≡ 0 → Takes client (meanings K rest)
   unfolding lines_of
@@ -147,7 +133,7 @@ module _ {K : ℕ} where
   empty-takes client (b ∷ rest) h = absurd (omega (arith, h))
 
   -- where nothing is left, all lines are taken
-  pub all-taken : (bytes : List ℕ) (client : ℕ) (rest : List ℕ) (number : ℕ) → length rest ≡ 0 → Follows (meanings K bytes) client (meanings K rest) number → AllTaken K bytes
+  pub all-taken : (bytes : List ℕ) (client : ℕ) (rest : List ℕ) (number : ℕ) → length rest ≡ 0 → Follows (meanings K bytes) client (meanings K rest) number → TakesAll K bytes
   all-taken bytes client rest number e h = h.takes (empty-takes client rest e)
 
   -- a text that is read is short enough
@@ -157,16 +143,6 @@ module _ {K : ℕ} where
       by : (t : Bool) → nat_le (length bytes) longest ≡ t → length bytes ≤ longest
       by true p = leb-true (length bytes) longest p
       by false p = absurd (ok-not-err asked 0 (sym e ∙ ((one-script {K = K}).long bytes).1 (omega (arith, leb-false (length bytes) longest p))))
-
-  -- a fault of the grammar is one of the program's
-  pub grammar-fault : (bytes : List ℕ) (n : ℕ) → lines K bytes ≡ Err n → IsFault K bytes n
-  grammar-fault bytes n e = by (nat_le (length bytes) longest) refl
-    where
-      by : (t : Bool) → nat_le (length bytes) longest ≡ t → IsFault K bytes n
-      by true p = inr (leb-true (length bytes) longest p, inl e)
-      by false p =
-          let long : longest < length bytes = omega (arith, leb-false (length bytes) longest p) in
-          inl (long, ap (error-or 0) (sym e ∙ ((one-script {K = K}).long bytes).1 long))
 
   made-few : {X : Type 0} (f : X → Option (Line K)) (xs : List X) → length (filter_map f xs) ≤ length xs
   made-few f [] = omega arith
@@ -204,39 +180,39 @@ module _ {K : ℕ} where
       by true g rest = first (f a) (ap f (eqb-true a i g) ∙ e)
       by false g rest = behind (f a) (rest (grind (arith, p, g)) (omega (arith, q)) e)
 
-  taken-each : (asked : List (Line K)) (requests : List (PointRequest K)) (l : Line K) → map taken asked ≡ map Some requests → Contains asked l → IsSome (taken l)
-  taken-each [] rs l e c = absurd (omega (arith, c.1))
-  taken-each (x ∷ asked) [] l e c = absurd (true≢false (sym (ap is-nil e)))
-  taken-each (x ∷ asked) (r ∷ rs) l e (zero, p, q) = ap (λ y. is_some (taken y)) (sym q) ∙ ap is_some (ap (head-or None) e)
-  taken-each (x ∷ asked) (r ∷ rs) l e (suc k, p, q) = taken-each asked rs l (ap tail-of e) (k, omega (arith, p), q)
-
-  -- as many requests are taken as lines ask
-  pub taken-count : (asked : List (Line K)) (requests : List (PointRequest K)) → map taken asked ≡ map Some requests → length requests ≡ length asked
-  taken-count asked requests e = sym (length-map requests Some) ∙ sym (ap length e) ∙ length-map asked taken
+  -- a line of a script is taken
+  taken-one : (asked : List (Line K)) (l : Line K) → AreTaken asked → Contains asked l → IsTrue (is_taken l)
+  taken-one asked l each c = subst (λ x. IsTrue (is_taken x)) c.2 (each c.0 l c.1)
 
   -- a script has no fault
-  pub script-sound : (bytes : List ℕ) (requests : List (PointRequest K)) (n : ℕ) → IsScript bytes requests → IsFault K bytes n → ⊥
-  script-sound bytes requests n s (inl long) = omega (arith, s.short, long.0)
-  script-sound bytes requests n s (inr (short, inl e)) = ok-not-err s.asked n (sym s.read ∙ e)
-  script-sound bytes requests n s (inr (short, inr u)) =
+  pub script-sound : (bytes : List ℕ) (asked : List (Line K)) (n : ℕ) → IsScript bytes asked → IsFault K bytes n → ⊥
+  script-sound bytes asked n s (inl e) = ok-not-err asked n (sym s.read ∙ e)
+  script-sound bytes asked n s (inr u) =
       let listed = is-made (line_at (meanings K bytes)) 0 (length (meanings K bytes)) (n - 1) u.first.line (omega arith) (omega (arith, there-is (meanings K bytes) (n - 1) u.first.line u.first.there)) u.first.there in
-      let inside = subst (λ ls. Contains ls u.first.line) (sym (((one-script {K = K}).whole bytes s.asked short).0 s.read).1) listed in
-      true≢false (sym (taken-each s.asked requests u.first.line s.each inside) ∙ ap is_some u.first.untaken)
+      let inside = subst (λ ls. Contains ls u.first.line) (sym (((one-script {K = K}).whole bytes asked (read-short bytes asked s.read)).0 s.read).1) listed in
+      true≢false (sym (taken-one asked u.first.line s.taken inside) ∙ u.first.untaken)
 
-  somes-one : (rs qs : List (PointRequest K)) → map Some rs ≡ map Some qs → rs ≡ qs
-  somes-one [] [] e = refl
-  somes-one [] (q ∷ qs) e = absurd (true≢false (ap is-nil e))
-  somes-one (r ∷ rs) [] e = absurd (true≢false (sym (ap is-nil e)))
-  somes-one (r ∷ rs) (q ∷ qs) e = λ i. one-value r q (ap (head-or None) e) i ∷ somes-one rs qs (ap tail-of e) i
+  -- of two lines the earlier is taken, where the other is the first that is not
+  not-before : (bytes : List ℕ) (n m : ℕ) → FirstUntaken K bytes n → FirstUntaken K bytes m → n < m → ⊥
+  not-before bytes n m f g lt = true≢false (sym (g.before (n - 1) f.line (omega (arith, f.some, lt)) f.there) ∙ f.untaken)
 
-  -- a text is the script of one list of requests
-  pub script-one : (bytes : List ℕ) (requests others : List (PointRequest K)) → IsScript bytes requests → IsScript bytes others → requests ≡ others
-  script-one bytes requests others s t =
-      somes-one requests others (sym s.each ∙ ap (map taken) (ap (value-or []) (sym s.read ∙ t.read)) ∙ t.each)
+  first-one : (bytes : List ℕ) (n m : ℕ) → FirstUntaken K bytes n → FirstUntaken K bytes m → n ≡ m
+  first-one bytes n m f g = by (n == m) refl
+    where
+      by : (t : Bool) → (n == m) ≡ t → n ≡ m
+      by true e = eqb-true n m e
+      by false e = absurd (⊎_elim (not-before bytes n m f g) (not-before bytes m n g f) (apart n m e))
 
-  -- a line that the program does not take is a fault of a whole script
+  -- a text has one fault at most
+  pub fault-one : (bytes : List ℕ) (n m : ℕ) → IsFault K bytes n → IsFault K bytes m → n ≡ m
+  fault-one bytes n m (inl e) (inl f) = ap (error-or n) (sym e ∙ f)
+  fault-one bytes n m (inl e) (inr u) = absurd (ok-not-err u.asked n (sym u.read ∙ e))
+  fault-one bytes n m (inr u) (inl f) = absurd (ok-not-err u.asked m (sym u.read ∙ f))
+  fault-one bytes n m (inr u) (inr v) = first-one bytes n m u.first v.first
+
+  -- a line that the program does not take is a fault of a text of the grammar
   pub untaken-fault : (bytes : List ℕ) (asked : List (Line K)) (number n : ℕ) → lines K bytes ≡ Ok asked → FirstUntaken K bytes number → number ≡ n → IsFault K bytes n
-  untaken-fault bytes asked number n e first same = inr (read-short bytes asked e, inr (record { asked = asked; read = e; first = subst (FirstUntaken K bytes) same first }))
+  untaken-fault bytes asked number n e first same = inr (record { asked = asked; read = e; first = subst (FirstUntaken K bytes) same first })
 
 -- the line that a fault names
 abbrev pub line-or : ScriptFault → ℕ

@@ -1,0 +1,183 @@
+//! The work of a run over its disk: the script is read and judged, its lines are answered, and the replies printed.
+ghost use Rattle.std.specs.Prelude.{◌≡◌, ◌≢◌, ◌≤◌, ◌<◌, ◌+◌, ◌*◌, ◌⊎◌, ◌∷◌, [], List, ℕ, IsTrue, IfOk, IfErr, IsErrOf, length};
+ghost use Rattle.grid_types.specs.declared.request.Line.{Line};
+ghost use Rattle.disk_trait.specs.Causes.{Rose};
+ghost use Rattle.disk_trait.specs.Streams.{Adds};
+ghost use Rattle.grid_script.specs.Taken.{AreTaken, IsScript, IsFault};
+ghost use Rattle.grid_shell.specs.Endings.{status_of, HasBegun, IsSilent, IsUnread};
+ghost use Rattle.grid_shell.specs.Standing.{begun, StandsAt};
+ghost use Rattle.grid_shell.specs.Runs.{printed, IsAnswered, IsPrinted, SomePrinted, HasFailed, OneRose, OneHigher, LostAtMost};
+
+use crate::ending::Ending;
+use crate::input::{InputFault, read_all};
+use crate::lone::{Lone, OpenFault};
+use crate::printing::print_all;
+use crate::session::answer_all;
+use disk_trait::{Disk, Sink, Source, Steps};
+use grid_script::{Script, read_taken};
+use grid_types::Line;
+use std::alloc::{AllocError, Global};
+use std::marker::Brand;
+use std::sync::ledger::{Blank, Ledger};
+
+/// How many attributes the file's keys have.
+pub const ATTRIBUTES: usize = 2;
+
+/// How many records its bucket takes.
+pub const CAPACITY: u16 = 2;
+
+/// How much of the input is read: one byte more than a script may have, so that a longer one shows.
+pub const MOST: usize = 16_777_217;
+
+/// A disk that was worked over, and how that ended.
+#[derive(Drop)]
+pub struct Worked<D: Disk> {
+    pub disk: D,
+    pub ending: Ending,
+}
+
+/// Answers the lines of a script, and prints. Nothing is printed before the last one was answered, nor where a call of
+/// the disk has failed.
+fn answer_lines<D: Disk, O: Sink, L: Ledger>(
+    alloc: Global,
+    lone: &mut Lone<D>,
+    asked: &[Line<ATTRIBUTES>],
+    out: &mut O,
+    blank: Blank,
+) -> Ending
+    requires name { blank.name ≡ L.name }
+    requires parts { blank.parts ≡ L.parts }
+    requires some { 0 < L.parts }
+    requires short { length asked.now ≤ MOST }
+    requires taken { AreTaken asked.now }
+    ensures answered { IsTrue (D.honest lone.old.disk) → IsTrue (O.tells out.old) → StandsAt ATTRIBUTES lone.old.capacity (D.seen lone.old.disk) lone.old.front (begun ATTRIBUTES) → lone.old.front ≡ 0
+        → (result ≡ Ending.Memory) ⊎ HasFailed (D.read_count lone.new.disk) (D.write_count lone.new.disk) ⊎ Rose (O.fault_count out.old) (O.fault_count out.new)
+        ⊎ IsAnswered lone.old.capacity asked.now (O.received out.old) (O.received out.new) (D.seen lone.new.disk) (status_of result) }
+    ensures done { result ≡ Ending.Done → IsTrue (D.honest lone.old.disk) → IsTrue (O.tells out.old) → StandsAt ATTRIBUTES lone.old.capacity (D.seen lone.old.disk) lone.old.front (begun ATTRIBUTES) → lone.old.front ≡ 0
+        → IsAnswered lone.old.capacity asked.now (O.received out.old) (O.received out.new) (D.seen lone.new.disk) (status_of result) }
+    ensures front { IsTrue (D.honest lone.old.disk) → IsTrue (O.tells out.old) → StandsAt ATTRIBUTES lone.old.capacity (D.seen lone.old.disk) lone.old.front (begun ATTRIBUTES) → lone.old.front ≡ 0
+        → Adds (O.received out.old) (O.received out.new) (printed lone.old.capacity asked.now) }
+    ensures shown { IsTrue (O.tells out.old) → (IsSilent result × (O.received out.new ≡ O.received out.old))
+        ⊎ IsPrinted (Rose (O.fault_count out.old) (O.fault_count out.new)) (Rose (O.fault_count out.old) (O.fault_count out.new)) asked.now (O.received out.old) (O.received out.new) (status_of result) }
+    ensures device { result ≡ Ending.Device → HasFailed (D.read_count lone.new.disk) (D.write_count lone.new.disk) ⊎ Rose (O.fault_count out.old) (O.fault_count out.new) }
+    ensures counted { HasFailed (D.read_count lone.new.disk) (D.write_count lone.new.disk) ⊎ (O.fault_count out.old < O.fault_count out.new) → (result ≢ Ending.Done) × (result ≢ Ending.Damaged) }
+    ensures begun { HasBegun result }
+    ensures later { O.fault_count out.old ≤ O.fault_count out.new }
+{
+    let mut replies = match Vec::with_capacity(alloc, asked.len()) {
+        Ok(replies) => replies,
+        Err(AllocError) => return Ending::Memory,
+    };
+    let mut steps = Steps::<L>::new(blank);
+    match answer_all(lone, asked, &mut replies, &mut steps) {
+        Ok(()) => {}
+        Err(_) => return Ending::Device,
+    }
+    if lone.has_failed() {
+        return Ending::Device;
+    }
+    let before = out.faults();
+    let ending = Ending::worst(&replies);
+    match print_all(out, &replies, lone.front) {
+        Ok(()) if out.faults() == before => ending,
+        _ => ending.with_fault(),
+    }
+}
+
+/// Writes the first page, and answers the lines of a script over it.
+fn open_and_answer<D: Disk, O: Sink>(
+    alloc: Global,
+    disk: D,
+    script: &Script<ATTRIBUTES>,
+    out: &mut O,
+) -> Worked<D>
+    requires page { 4096 ≤ D.extent disk }
+    requires short { length script.now ≤ MOST }
+    requires taken { AreTaken script.now }
+    ensures answered { IsTrue (D.honest disk) → IsTrue (O.tells out.old) → (result.ending ≡ Ending.Memory) ⊎ HasFailed (D.read_count result.disk) (D.write_count result.disk) ⊎ Rose (O.fault_count out.old) (O.fault_count out.new)
+        ⊎ IsAnswered CAPACITY script.now (O.received out.old) (O.received out.new) (D.seen result.disk) (status_of result.ending) }
+    ensures done { result.ending ≡ Ending.Done → IsTrue (D.honest disk) → IsTrue (O.tells out.old) → IsAnswered CAPACITY script.now (O.received out.old) (O.received out.new) (D.seen result.disk) (status_of result.ending) }
+    ensures front { IsTrue (D.honest disk) → IsTrue (O.tells out.old) → Adds (O.received out.old) (O.received out.new) (printed CAPACITY script.now) }
+    ensures shown { IsTrue (O.tells out.old) → (IsSilent result.ending × (O.received out.new ≡ O.received out.old))
+        ⊎ IsPrinted (Rose (O.fault_count out.old) (O.fault_count out.new)) (Rose (O.fault_count out.old) (O.fault_count out.new)) script.now (O.received out.old) (O.received out.new) (status_of result.ending) }
+    ensures device { result.ending ≡ Ending.Device → HasFailed (D.read_count result.disk) (D.write_count result.disk) ⊎ Rose (O.fault_count out.old) (O.fault_count out.new) }
+    ensures counted { HasFailed (D.read_count result.disk) (D.write_count result.disk) ⊎ (O.fault_count out.old < O.fault_count out.new) → (result.ending ≢ Ending.Done) × (result.ending ≢ Ending.Damaged) }
+    ensures begun { HasBegun result.ending }
+    ensures later { O.fault_count out.old ≤ O.fault_count out.new }
+{
+    match Lone::begin::<ATTRIBUTES>(disk, CAPACITY) {
+        Ok(lone) => {
+            let mut lone = lone;
+            let ending =
+                answer_lines::<D, O, Brand>(alloc, &mut lone, script.lines(), out, Blank::new(1));
+            Worked {
+                disk: lone.into_disk(),
+                ending,
+            }
+        }
+        Err(OpenFault { disk, refusal: _ }) => Worked {
+            disk,
+            ending: Ending::Device,
+        },
+    }
+}
+
+/// Reads the script to its end and judges it. An input that counts a failure is a failed device, whatever it gave.
+fn read_lines<S: Source>(alloc: Global, input: &mut S) -> Result<Script<ATTRIBUTES>, Ending>
+    ensures read { IsTrue (S.tells input.old) → IfOk result (λ s. IsScript (S.left input.old) s) }
+    ensures short { IfOk result (λ s. length s ≤ MOST) }
+    ensures taken { IfOk result AreTaken }
+    ensures unread { IfErr result IsUnread }
+    ensures fault { IsTrue (S.tells input.old) → (n : ℕ) → IsErrOf result (Ending.BadScript n) → IsFault ATTRIBUTES (S.left input.old) n }
+    ensures device { IsErrOf result Ending.Device → Rose (S.fault_count input.old) (S.fault_count input.new) }
+    ensures counted { IfOk result (λ s. S.fault_count input.new ≡ S.fault_count input.old) }
+    ensures quiet { (n : ℕ) → IsErrOf result (Ending.BadScript n) → S.fault_count input.new ≡ S.fault_count input.old }
+    ensures lost { IsTrue (S.tells input.old) → LostAtMost MOST (S.left input.old) (S.left input.new) }
+    ensures later { S.fault_count input.old ≤ S.fault_count input.new }
+{
+    let before = input.faults();
+    let bytes = match read_all(alloc, input, MOST) {
+        Ok(bytes) => bytes,
+        Err(InputFault::Source) => return Err(Ending::Device),
+        Err(InputFault::NoMemory) => return Err(Ending::Memory),
+    };
+    if input.faults() != before {
+        return Err(Ending::Device);
+    }
+    match read_taken::<ATTRIBUTES>(alloc, bytes.as_slice()) {
+        Ok(script) => Ok(script),
+        Err(fault) => Err(Ending::of_fault(fault)),
+    }
+}
+
+/// Reads the script, answers its lines over the disk, and prints.
+pub fn run_disk<D: Disk, S: Source, O: Sink>(
+    alloc: Global,
+    disk: D,
+    input: &mut S,
+    out: &mut O,
+) -> Worked<D>
+    requires page { 4096 ≤ D.extent disk }
+    requires unread { D.read_count disk ≡ 0 }
+    requires unwritten { D.write_count disk ≡ 0 }
+    ensures answered { IsTrue (D.honest disk) → IsTrue (S.tells input.old) → IsTrue (O.tells out.old) → (asked : List (Line ATTRIBUTES)) → IsScript (S.left input.old) asked
+        → (result.ending ≡ Ending.Memory) ⊎ HasFailed (D.read_count result.disk) (D.write_count result.disk) ⊎ OneRose ((S.fault_count input.old, S.fault_count input.new) ∷ (O.fault_count out.old, O.fault_count out.new) ∷ [])
+        ⊎ IsAnswered CAPACITY asked (O.received out.old) (O.received out.new) (D.seen result.disk) (status_of result.ending) }
+    ensures done { result.ending ≡ Ending.Done → IsTrue (D.honest disk) → IsTrue (S.tells input.old) → IsTrue (O.tells out.old) → (asked : List (Line ATTRIBUTES)) → IsScript (S.left input.old) asked
+        → IsAnswered CAPACITY asked (O.received out.old) (O.received out.new) (D.seen result.disk) (status_of result.ending) }
+    ensures front { IsTrue (D.honest disk) → IsTrue (S.tells input.old) → IsTrue (O.tells out.old) → (asked : List (Line ATTRIBUTES)) → IsScript (S.left input.old) asked → Adds (O.received out.old) (O.received out.new) (printed CAPACITY asked) }
+    ensures shown { IsTrue (O.tells out.old) → (IsSilent result.ending × (O.received out.new ≡ O.received out.old))
+        ⊎ SomePrinted ATTRIBUTES (λ asked. IsTrue (S.tells input.old) → IsScript (S.left input.old) asked) (Rose (O.fault_count out.old) (O.fault_count out.new)) (Rose (O.fault_count out.old) (O.fault_count out.new)) (O.received out.old) (O.received out.new) (status_of result.ending) }
+    ensures script { IsTrue (S.tells input.old) → (n : ℕ) → result.ending ≡ Ending.BadScript n → IsFault ATTRIBUTES (S.left input.old) n }
+    ensures faulty { IsTrue (S.tells input.old) → (n : ℕ) → IsFault ATTRIBUTES (S.left input.old) n → (result.ending ≡ Ending.BadScript n) ⊎ (result.ending ≡ Ending.Memory) ⊎ ((result.ending ≡ Ending.Device) × Rose (S.fault_count input.old) (S.fault_count input.new)) }
+    ensures quiet { (n : ℕ) → result.ending ≡ Ending.BadScript n → (out.new ≡ out.old) × (S.fault_count input.new ≡ S.fault_count input.old) }
+    ensures device { result.ending ≡ Ending.Device → HasFailed (D.read_count result.disk) (D.write_count result.disk) ⊎ OneRose ((S.fault_count input.old, S.fault_count input.new) ∷ (O.fault_count out.old, O.fault_count out.new) ∷ []) }
+    ensures counted { HasFailed (D.read_count result.disk) (D.write_count result.disk) ⊎ OneHigher ((S.fault_count input.old, S.fault_count input.new) ∷ (O.fault_count out.old, O.fault_count out.new) ∷ []) → (result.ending ≢ Ending.Done) × (result.ending ≢ Ending.Damaged) }
+    ensures words { result.ending ≢ Ending.BadWords }
+    ensures lost { IsTrue (S.tells input.old) → LostAtMost MOST (S.left input.old) (S.left input.new) }
+{
+    match read_lines(alloc, input) {
+        Ok(script) => open_and_answer(alloc, disk, &script, out),
+        Err(ending) => Worked { disk, ending },
+    }
+}
