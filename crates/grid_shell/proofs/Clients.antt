@@ -1,5 +1,5 @@
 -- What a line is that the program takes.
-use Rattle.std.proofs.Common.{◌≡◌, ◌⊎◌, inl, inr, ◌∙◌, ℕ, true, false, ◌==◌, IsTrue, sym, ap, true≢false}
+use Rattle.std.proofs.Common.{◌≡◌, ◌⊎◌, inl, inr, ◌∙◌, ℕ, false, ◌==◌, IsTrue, sym, ap, true≢false}
 use Rattle.grid_types.specs.declared.key.Key.{Key}
 use Rattle.grid_types.specs.declared.query.Query.{Query}
 use Rattle.grid_types.specs.declared.request.Request.TheVariants as ask

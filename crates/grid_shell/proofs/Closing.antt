@@ -1,10 +1,10 @@
 -- What a bay that fails at the end makes of a run.
-use Rattle.std.proofs.Common.{◌≡◌, ◌≢◌, ◌⊎◌, ◌∙◌, ◌∷◌, [], inl, inr, ℕ, List, max, refl, sym, ap, subst, arith}
+use Rattle.std.proofs.Common.{◌≡◌, ◌≢◌, ◌⊎◌, ◌∙◌, inl, inr, ℕ, List, max, refl, sym, ap, subst, arith}
 use Rattle.grid_types.specs.declared.request.Line.{Line}
 use Rattle.grid_shell.specs.declared.ending.Ending.{Ending}
 use Rattle.grid_shell.specs.declared.ending.Ending.TheVariants.{Done, BadWords, BadScript, Damaged, Device, Memory, Refused}
 use Rattle.grid_shell.specs.Endings.{status_of, with_fault_of, worst_of, IsSilent}
-use Rattle.grid_shell.specs.Runs.{IsPrinted, SomePrinted}
+use Rattle.grid_shell.specs.Runs.{SomePrinted}
 
 twice_five : (w : ℕ) → max 5 (max 5 w) ≡ max 5 w
 twice_five w = omega arith
@@ -44,13 +44,13 @@ printed_still Asks SinkFailed Failed More had has status more p = record {
   asked = p.asked;
   asks = p.asks;
   printed = record {
-      replies = p.printed.replies;
-      front = p.printed.front;
-      each = p.printed.each;
-      added = p.printed.added;
-      whole = p.printed.whole;
-      ends = elim p.printed.ends [ | inl same ↦ inl same | inr failed ↦ inr (more failed.0, failed.1) ];
-    };
+    replies = p.printed.replies;
+    front = p.printed.front;
+    each = p.printed.each;
+    added = p.printed.added;
+    whole = p.printed.whole;
+    ends = elim p.printed.ends [ inl same ↦ inl same | inr failed ↦ inr (more failed.0, failed.1) ];
+  };
 }
 
 -- and one where the bay has failed has status 5 at least
@@ -59,16 +59,16 @@ printed_failed Asks SinkFailed Failed had has status now failed is p = record {
   asked = p.asked;
   asks = p.asks;
   printed = record {
-      replies = p.printed.replies;
-      front = p.printed.front;
-      each = p.printed.each;
-      added = p.printed.added;
-      whole = p.printed.whole;
-      ends = elim p.printed.ends [
-        | inl same ↦ inr (failed, is ∙ ap (max 5) same)
-        | inr before ↦ inr (failed, is ∙ ap (max 5) before.1 ∙ twice_five (worst_of p.printed.replies))
-      ];
-    };
+    replies = p.printed.replies;
+    front = p.printed.front;
+    each = p.printed.each;
+    added = p.printed.added;
+    whole = p.printed.whole;
+    ends = elim p.printed.ends [
+      | inl same ↦ inr (failed, is ∙ ap (max 5) same)
+      | inr before ↦ inr (failed, is ∙ ap (max 5) before.1 ∙ twice_five (worst_of p.printed.replies))
+    ];
+  };
 }
 
 module _ {K : ℕ} (Asks : List (Line K) → Type 0) (SinkFailed Failed More : Type 0) (had has : List ℕ) (e r : Ending) (more : Failed → More) where

@@ -1,17 +1,16 @@
 -- The replies of a lone caller.
-use Rattle.std.proofs.Common.{◌≡◌, ◌≢◌, ◌⊎◌, ◌<◌, ◌≤◌, ◌+◌, ℕ, true, false, List, Option, refl, sym, ap, subst, ◌∙◌, inl, inr, arith}
+use Rattle.std.proofs.Common.{◌≡◌, ◌≢◌, ◌⊎◌, ◌<◌, ◌≤◌, ◌+◌, ℕ, true, false, List, Option, sym, ap, subst, ◌∙◌, inl, inr, arith}
 use Rattle.grid_types.specs.declared.answer.Answer.{Answer}
 use Rattle.grid_types.specs.declared.key.Key.{Key}
 use Rattle.grid_types.specs.declared.refusal.Refusal.{Refusal}
 use Rattle.grid_types.specs.declared.refusal.Refusal.TheVariants.{ReadFault, WriteFault, Damaged, NoCut, Worn}
 use Rattle.grid_types.specs.declared.note.NoteOf.TheVariants as note
 use Rattle.grid_types.specs.declared.request.Request.TheVariants as ask
-use Rattle.grid_types.specs.declared.request.Reply.{Reply}
 use Rattle.grid_types.specs.declared.request.Reply.TheVariants as reply
 use Rattle.grid_types.specs.declared.update.Record.{Record}
 use Rattle.grid_types.specs.declared.update.Update.TheVariants.{Put}
 use Rattle.grid_types.specs.Keys.{IsKey}
-use Rattle.grid_model.specs.Tables.{Table, get, with_data, entries_of}
+use Rattle.grid_model.specs.Tables.{Table, get, with_data}
 use Rattle.grid_model.specs.Layouts.{inside, whole}
 use Rattle.grid_model.specs.Lone.{State, lone, done, refused}
 use Rattle.grid_shell.specs.Standing.{undivided, worn_at, takes, StandsFor, StandsAt, CanRefuse}

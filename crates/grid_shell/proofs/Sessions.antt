@@ -5,8 +5,8 @@ use Rattle.grid_types.specs.declared.request.Reply.{Reply}
 use Rattle.grid_types.specs.declared.shape.Shape.{Shape}
 use Rattle.grid_model.specs.Lone.{State, made, answers, afterwards}
 use Rattle.grid_model.specs.Transcripts.{requests, groups}
-use Rattle.grid_model.specs.Text.{Group, text}
-use Rattle.grid_script.specs.Taken.{is_taken, AreTaken}
+use Rattle.grid_model.specs.Text.{text}
+use Rattle.grid_script.specs.Taken.{AreTaken}
 use Rattle.grid_shell.specs.Endings.{worst_of}
 use Rattle.grid_shell.specs.Standing.{undivided, begun, worn_at, StandsFor, StandsAt}
 use Rattle.grid_shell.specs.Runs.{told, left_by, printed, group_of, IsAnswered}

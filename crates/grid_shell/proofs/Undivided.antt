@@ -1,22 +1,15 @@
 -- A lone caller over one bucket that nothing divides.
-use Rattle.std.proofs.Common.{◌≡◌, ◌<◌, ◌≤◌, ◌+◌, ◌-◌, ◌/◌, ◌^◌, ℕ, zero, suc, Bool, true, false, ◌&&◌, ◌||◌, ◌==◌, cond, List, [], ◌∷◌, ◌++◌, map, length, replicate, get_or, Option, Some, None, is_some, nat_lt, nat_le, filter, refl, sym, ap, subst, ◌∙◌, arith, true≢false}
+use Rattle.std.proofs.Common.{◌≡◌, ◌<◌, ◌+◌, ◌/◌, ◌^◌, ℕ, zero, suc, true, false, ◌&&◌, ◌||◌, ◌==◌, cond, List, [], ◌∷◌, ◌++◌, map, length, replicate, get_or, Option, Some, None, is_some, nat_lt, nat_le, filter, refl, ap, ◌∙◌, arith}
 use Rattle.std.specs.Prelude.{flat_map, if◌then◌else◌}
 use Rattle.std.specs.Option.{option_map, option_and_then}
-use Rattle.std.specs.FinMap.Entries.{where_key}
-use Rattle.std.proofs.lemmas.List.{get_or-replicate, get_or_past, length-replicate}
 use Rattle.std.proofs.lemmas.Bool.Decides.{nat_tests}
-use Rattle.grid_types.specs.declared.shape.Shape.{Shape}
-use Rattle.grid_types.specs.declared.key.Key.{Key}
 use Rattle.grid_types.specs.declared.update.Record.{Record}
-use Rattle.grid_types.specs.declared.update.Update.{Update}
 use Rattle.grid_types.specs.declared.update.Update.TheVariants.{Put}
-use Rattle.grid_types.specs.declared.note.Cut.{Cut}
 use Rattle.grid_types.specs.declared.note.NoteOf.{NoteOf}
 use Rattle.grid_types.specs.declared.note.NoteOf.TheVariants as note
 use Rattle.grid_types.specs.declared.refusal.Refusal.TheVariants.{Full, NoCut}
 use Rattle.grid_types.specs.declared.request.Request.TheVariants as ask
-use Rattle.grid_types.specs.declared.request.Reply.TheVariants as reply
-use Rattle.grid_types.specs.Keys.{key_cmp, IsKey}
+use Rattle.grid_types.specs.Keys.{IsKey}
 use Rattle.grid_types.specs.Regions.{contains}
 use Rattle.grid_model.specs.Lists.{below, least, first_some, or_else}
 use Rattle.grid_model.specs.Scales.{scale_of}
@@ -24,8 +17,8 @@ use Rattle.grid_model.specs.Cells.{cells, parts}
 use Rattle.grid_model.specs.Tables.{Table, get, with_data, effect, entry, entries_of}
 use Rattle.grid_model.specs.Layouts.{Box, Layout, holder, inside, whole, new_layout}
 use Rattle.grid_model.specs.Cuts.{cut, candidates, candidates_in, best_existing, best_value, is_within, divides, rank, cells_with, may_grow, old_cut, new_cut, refinement, refinements, cycle}
-use Rattle.grid_model.specs.Notes.{keys_with, cut_note, put_note, put_note_at, after_at}
-use Rattle.grid_model.specs.Lone.{Owners, State, Outcome, lone, updated, update_held, update_at, put_noted, change, change_claimed, claimed, queued, published, done, refused, answered, need, renewed, dropped, outside, among, free, root, boundaries, how_many}
+use Rattle.grid_model.specs.Notes.{keys_with, cut_note, put_note, put_note_at}
+use Rattle.grid_model.specs.Lone.{State, lone, updated, update_held, put_noted, change, change_claimed, claimed, queued, published, done, refused, need, renewed, dropped, outside, among, free, root, boundaries, how_many}
 use Rattle.grid_model.proofs.NewLayout.{one_cell, whole_has}
 use Rattle.grid_shell.specs.Standing.{undivided, worn_at, nobody, takes}
 

@@ -7,7 +7,6 @@ use Rattle.grid_types.specs.declared.request.Reply.{Reply}
 use Rattle.grid_types.specs.declared.request.Reply.TheVariants as reply
 use Rattle.grid_types.specs.declared.refusal.Refusal.{Refusal}
 use Rattle.grid_types.specs.declared.refusal.Refusal.TheVariants.{Damaged, NoCut, Worn}
-use Rattle.grid_model.specs.Tables.{Table}
 use Rattle.grid_model.specs.Lone.{State, answers, afterwards}
 use Rattle.grid_model.specs.Text.{Group, text}
 use Rattle.grid_model.specs.Transcripts.{requests, groups}

@@ -54,7 +54,7 @@ fn run_file<B: Bay, S: Source, O: Sink>(
     ensures front { IsTrue (B.tells bay.old) → IsTrue (S.tells input.old) → IsTrue (O.tells out.old) → (asked : List (Line ATTRIBUTES)) → IsScript (S.left input.old) asked → Adds (O.received out.old) (O.received out.new) (printed CAPACITY asked) }
     ensures shown { IsTrue (O.tells out.old) → (IsSilent result × (O.received out.new ≡ O.received out.old))
         ⊎ SomePrinted ATTRIBUTES (λ asked. IsTrue (S.tells input.old) → IsScript (S.left input.old) asked) (Rose (O.fault_count out.old) (O.fault_count out.new))
-            (OneRose ((B.fault_count bay.old, B.fault_count bay.new) ∷ (O.fault_count out.old, O.fault_count out.new) ∷ [])) (O.received out.old) (O.received out.new) (status_of result) }
+        (OneRose ((B.fault_count bay.old, B.fault_count bay.new) ∷ (O.fault_count out.old, O.fault_count out.new) ∷ [])) (O.received out.old) (O.received out.new) (status_of result) }
     ensures script { IsTrue (S.tells input.old) → (n : ℕ) → result ≡ Ending.BadScript n → IsFault ATTRIBUTES (S.left input.old) n }
     ensures faulty { IsTrue (S.tells input.old) → (n : ℕ) → IsFault ATTRIBUTES (S.left input.old) n → (result ≡ Ending.BadScript n) ⊎ (result ≡ Ending.Memory)
         ⊎ ((result ≡ Ending.Device) × ((IsTrue (B.tells bay.old) × (B.place bay.old name.now ≢ Absent)) ⊎ OneRose ((B.fault_count bay.old, B.fault_count bay.new) ∷ (S.fault_count input.old, S.fault_count input.new) ∷ []))) }
@@ -107,7 +107,7 @@ pub fn run_grid<R: AllocGlobal, B: Bay, S: Source, O: Sink, E: Sink>(
     // greatest that a printed reply makes. So nothing is printed before the last line was answered.
     ensures shown { (name : List ℕ) → IsRun words.now name → IsTrue (O.tells out.old) → ((result ≢ 0) × (result ≢ 4) × (result ≢ 7) × (O.received out.new ≡ O.received out.old))
         ⊎ SomePrinted ATTRIBUTES (λ asked. IsTrue (S.tells input.old) → IsScript (S.left input.old) asked) (Rose (O.fault_count out.old) (O.fault_count out.new))
-            (OneRose ((B.fault_count bay.old, B.fault_count bay.new) ∷ (O.fault_count out.old, O.fault_count out.new) ∷ [])) (O.received out.old) (O.received out.new) result }
+        (OneRose ((B.fault_count bay.old, B.fault_count bay.new) ∷ (O.fault_count out.old, O.fault_count out.new) ∷ [])) (O.received out.old) (O.received out.new) result }
 
     // Status 2 comes exactly where the words are none of the written forms, and then nothing is touched.
     ensures words { (result ≡ 2) ↔ ((name : List ℕ) → IsRun words.now name → ⊥) }

@@ -108,8 +108,13 @@ fn open_and_answer<D: Disk, O: Sink>(
     match Lone::begin::<ATTRIBUTES>(disk, CAPACITY) {
         Ok(lone) => {
             let mut lone = lone;
-            let ending =
-                answer_lines::<D, O, Brand>(alloc, &mut lone, script.lines(), out, Blank::new(1));
+            let ending = answer_lines::<D, O, Brand>(
+                alloc,
+                &mut lone,
+                script.lines(),
+                out,
+                Blank::new(1),
+            );
             Worked {
                 disk: lone.into_disk(),
                 ending,

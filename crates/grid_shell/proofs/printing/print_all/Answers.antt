@@ -1,4 +1,4 @@
-use Rattle.std.proofs.Common.{◌≡◌, ◌∙◌, ◌+◌, sym, ap, length, arith, ◌++◌, List, ℕ}
+use Rattle.std.proofs.Common.{◌≡◌, ◌∙◌, ◌+◌, sym, ap, length, arith, ◌++◌}
 use Rattle.std.proofs.lemmas.Result.{on_ok_weaker}
 use Rattle.grid_shell.proofs.Adding.{adds_next}
 use Rattle.grid_shell.proofs.Lines.{reply_text, text_to, text_more, all_text, one_more, pieces_more, adds_pieces, adds_text}

@@ -1,4 +1,4 @@
-use Rattle.std.proofs.Common.{◌≡◌, ◌∙◌, ◌<◌, ◌+◌, ◌++◌, [], List, ℕ, length, slice_index_or, sym, ap, subst, append_assoc, arith}
+use Rattle.std.proofs.Common.{◌≡◌, ◌∙◌, ◌+◌, ◌++◌, [], List, ℕ, length, slice_index_or, sym, ap, subst, append_assoc, arith}
 use Rattle.disk_trait.specs.Streams.{Adds}
 use Rattle.grid_model.specs.Text.{reply_lines}
 use Rattle.grid_shell.proofs.Adding.{adds_longer, adds_next}

@@ -1,4 +1,4 @@
-use Rattle.std.proofs.Common.{◌≡◌, ◌⊎◌, ◌∷◌, [], inl, inr, ℕ, List, IsTrue, refl, ap}
+use Rattle.std.proofs.Common.{◌∷◌, [], inl, inr, List, IsTrue, refl, ap}
 use Rattle.disk_trait.specs.Causes.{Rose}
 use Rattle.grid_types.specs.declared.request.Line.{Line}
 use Rattle.grid_script.specs.Taken.{IsScript}

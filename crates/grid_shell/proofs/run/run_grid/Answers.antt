@@ -30,11 +30,13 @@ returns-clause-faulty g c = λ name run told fault.
           elim (w.run_file-ending.ensures.faulty told fault.line fault.fault) [
             | inl bad ↦ inl (status ∙ ap status_of bad)
             | inr (inl memory) ↦ inr (inl (status ∙ ap status_of memory))
-            | inr (inr device) ↦ inr (inr (status ∙ ap status_of device.0,
+            | inr (inr device) ↦ inr (inr (
+              status ∙ ap status_of device.0,
               subst (λ n. (IsTrue (g.B.Bay.tells c.args.bay.now) × (g.B.Bay.place c.args.bay.now n ≢ Absent)) ⊎ OneRose ((g.B.Bay.fault_count c.args.bay.now, g.B.Bay.fault_count c.match-file_to_run.bay) ∷ (g.S.Source.fault_count c.args.input.now, g.S.Source.fault_count c.match-file_to_run.input) ∷ [])) named
-              (subst (λ b. (IsTrue (g.B.Bay.tells c.args.bay.now) × (g.B.Bay.place c.args.bay.now w.in-Some.name.now ≢ Absent)) ⊎ OneRose ((g.B.Bay.fault_count c.args.bay.now, g.B.Bay.fault_count b) ∷ (g.S.Source.fault_count c.args.input.now, g.S.Source.fault_count c.match-file_to_run.input) ∷ [])) (sym w.bay-is)
-              (subst (λ s. (IsTrue (g.B.Bay.tells c.args.bay.now) × (g.B.Bay.place c.args.bay.now w.in-Some.name.now ≢ Absent)) ⊎ OneRose ((g.B.Bay.fault_count c.args.bay.now, g.B.Bay.fault_count w.run_file-ending.new.bay) ∷ (g.S.Source.fault_count c.args.input.now, g.S.Source.fault_count s) ∷ [])) (sym w.input-is)
-              device.1))))
+                  (subst (λ b. (IsTrue (g.B.Bay.tells c.args.bay.now) × (g.B.Bay.place c.args.bay.now w.in-Some.name.now ≢ Absent)) ⊎ OneRose ((g.B.Bay.fault_count c.args.bay.now, g.B.Bay.fault_count b) ∷ (g.S.Source.fault_count c.args.input.now, g.S.Source.fault_count c.match-file_to_run.input) ∷ [])) (sym w.bay-is)
+                  (subst (λ s. (IsTrue (g.B.Bay.tells c.args.bay.now) × (g.B.Bay.place c.args.bay.now w.in-Some.name.now ≢ Absent)) ⊎ OneRose ((g.B.Bay.fault_count c.args.bay.now, g.B.Bay.fault_count w.run_file-ending.new.bay) ∷ (g.S.Source.fault_count c.args.input.now, g.S.Source.fault_count s) ∷ [])) (sym w.input-is)
+                  device.1)),
+            ))
           ]
       | in-None w ↦ absurd (w.in-None.ensures.none name run)
     ]

@@ -2,7 +2,7 @@ use Rattle.std.proofs.Common.{◌≡◌, ◌<◌, ◌∙◌, sym, ap, subst, tak
 use Rattle.std.proofs.lemmas.List.{take_all}
 use Rattle.grid_model.specs.Lone.{lone, answers, afterwards}
 use Rattle.grid_model.specs.Transcripts.{requests}
-use Rattle.grid_shell.specs.Standing.{undivided, worn_at, StandsAt}
+use Rattle.grid_shell.specs.Standing.{undivided, StandsAt}
 use Rattle.grid_shell.specs.Runs.{AreRepliesTo, IsReplyTo}
 use Rattle.grid_shell.proofs.Sequences.{no_answers, at_first, answers_more, afterwards_more, replies_more, fault_since}
 use Rattle.grid_shell.proofs.session.answer_all.Goals as goal

@@ -1,7 +1,7 @@
 use Rattle.std.proofs.Common.{◌∙◌}
 use Rattle.std.proofs.lemmas.Result.{IfOk-weaker}
 use Rattle.grid_types.specs.declared.refusal.Refusal.TheVariants.{Damaged}
-use Rattle.grid_shell.proofs.Errors.{error_of, both_ok}
+use Rattle.grid_shell.proofs.Errors.{error_of}
 use Rattle.grid_shell.proofs.Replies.{got_is, stands_after_get, get_refused}
 use Rattle.grid_shell.proofs.session.reply_to_get.Goals as goal
 

@@ -1,4 +1,4 @@
-use Rattle.std.proofs.Common.{◌≡◌, ◌∙◌, ◌+◌, ap}
+use Rattle.std.proofs.Common.{◌≡◌, ◌∙◌, ap}
 use Rattle.std.proofs.lemmas.Result.{IfOk-weaker}
 use Rattle.grid_types.specs.declared.refusal.Refusal.TheVariants.{Damaged, NoCut, Worn}
 use Rattle.grid_types.specs.declared.request.Reply.TheVariants as reply

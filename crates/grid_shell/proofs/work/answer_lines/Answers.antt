@@ -1,4 +1,4 @@
-use Rattle.std.proofs.Common.{◌≤◌, ◌+◌, ◌∙◌, length, subst, List, ℕ, inr}
+use Rattle.std.proofs.Common.{◌≤◌, ◌+◌, length, subst, List, ℕ, inr}
 use Rattle.disk_trait.specs.Streams.{Adds}
 use Rattle.grid_shell.specs.Standing.{begun, worn_at}
 use Rattle.grid_shell.proofs.Sessions.{session_answered, session_text, below_worn}

@@ -1,4 +1,4 @@
-use Rattle.std.proofs.Common.{◌≡◌, ◌∙◌, inl, inr, ap}
+use Rattle.std.proofs.Common.{◌∙◌, inl, inr, ap}
 use Rattle.grid_shell.specs.declared.ending.Ending.TheVariants.{BadScript, Device}
 use Rattle.grid_script.proofs.Taking.{script-sound, fault-one}
 use Rattle.grid_shell.proofs.Errors.{error_of}

@@ -2,7 +2,6 @@ use Rattle.std.proofs.Common.{◌≡◌, ◌∙◌, sym, subst}
 use Rattle.std.proofs.lemmas.Bool.{false≢true}
 use Rattle.grid_types.specs.Regions.{Within}
 use Rattle.bucket_page.specs.Spelling.{Spells}
-use Rattle.grid_shell.specs.Standing.{IsExpected}
 use Rattle.grid_shell.proofs.lone.Lone.bucket_of.Goals as goal
 
 pub returns-then-not-contains-clause-damaged : goal.returns-then-not-contains-clause-damaged
