@@ -2,7 +2,7 @@
 use Rattle.std.proofs.lemmas.List.{length-map}
 use Rattle.std.proofs.lemmas.Bool.Decides.{nat_tests}
 use Rattle.std.proofs.lemmas.List.FromFn.{length-range_with_len}
-use Rattle.std.proofs.Common.{◌==◌, cond, nat_le, leb-true, leb-false, eqb-true, Result, ◌≡◌, ◌<◌, ◌≤◌, ◌+◌, ◌-◌, ◌⊎◌, ⊎_elim, inl, inr, ℕ, zero, suc, Bool, true, false, List, [], ◌∷◌, map, length, Option, Some, None, IsTrue, Ok, Err, refl, sym, ap, subst, ◌∙◌, arith, true≢false, slice_get}
+use Rattle.std.proofs.Common.{◌==◌, cond, nat_le, leb-true, leb-false, eqb-true, Result, ◌≡◌, ◌<◌, ◌≤◌, ◌+◌, ◌-◌, ◌⊎◌, ⊎_elim, inl, inr, ℕ, zero, suc, Bool, true, false, List, [], ◌∷◌, length, Option, Some, None, IsTrue, Ok, Err, refl, sym, ap, subst, ◌∙◌, arith, true≢false, slice_get}
 use Rattle.std.specs.Prelude.{filter_map}
 use Rattle.std.specs.List.{Contains, range_with_len, cons_option}
 use Rattle.std.specs.Option.{is_some, option_and_then}
@@ -14,7 +14,7 @@ use Rattle.grid_model.proofs.Reading.{one-script, said}
 use Rattle.grid_model.proofs.Boxes.{one-value}
 use Rattle.grid_script.specs.declared.script.ScriptFault.{ScriptFault}
 use Rattle.grid_script.specs.declared.script.ScriptFault.TheVariants as fault
-use Rattle.grid_script.specs.Taken.{is_taken, AreTaken, IsScript, FirstUntaken, IsUntakenAt, IsFault, TakesAll, Passes}
+use Rattle.grid_script.specs.Taken.{is_taken, AreTaken, IsScript, FirstUntaken, IsFault, TakesAll, Passes}
 
 -- what a text has of lines, and what stands in a list
 ok-not-err : {X E : Type 0} (x : X) (e : E) → Ok x ≡ Err e → ⊥

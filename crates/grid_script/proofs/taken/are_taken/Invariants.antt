@@ -1,4 +1,4 @@
-use Rattle.std.proofs.Common.{take, IsTrue}
+use Rattle.std.proofs.Common.{IsTrue}
 use Rattle.std.specs.List.{AllWithin}
 use Rattle.grid_script.specs.Taken.{is_taken}
 use Rattle.grid_script.proofs.taken.are_taken.Given as goal

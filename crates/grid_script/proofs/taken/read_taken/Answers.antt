@@ -1,9 +1,6 @@
-use Rattle.std.proofs.Common.{ap, subst}
-use Rattle.std.specs.Prelude.{Err}
+use Rattle.std.proofs.Common.{subst}
 use Rattle.std.specs.List.{Contains}
-use Rattle.grid_script.specs.Taken.{AreTaken}
-use Rattle.grid_script.specs.declared.script.ScriptFault.TheVariants as fault
-use Rattle.grid_script.proofs.Taking.{read-short, few-asked, none-untaken, untaken-fault, error-or, line-or}
+use Rattle.grid_script.proofs.Taking.{read-short, few-asked, none-untaken}
 use Rattle.grid_script.proofs.taken.read_taken.Goals as goal
 
 pub returns-then-are_taken-clause-count : goal.returns-then-are_taken-clause-count
