@@ -2,33 +2,28 @@
 use Rattle.std.proofs.Common.{◌≡◌, ◌≤◌, ◌+◌, ◌-◌, ◌*◌, ◌^◌, ◌<◌, ℕ, List, ◌++◌, length, take, drop, replicate, sym, ap, subst, ◌∙◌, append_assoc, arith, codes, refl}
 use Rattle.std.proofs.lemmas.List.{drop-drop, take-append-drop, take-replicate, drop_all, append-nil}
 use Rattle.page_fields.specs.Fields.{bytes_of, AreZeros}
-use Rattle.page_fields.proofs.ZeroParts.{zeros_same}
-use Rattle.grid_model.specs.Spellings.{words_of}
+use Rattle.page_fields.specs.Padded.{words_of}
+use Rattle.page_fields.proofs.Entries.{AreBytes, number_is, entries_in, length-entries_in, entries_fit, entries_are}
+use Rattle.page_fields.proofs.ZeroParts.{zeros_are}
 use Rattle.directory_pages.specs.Spelling.{head, IsPart}
 use Rattle.directory_pages.specs.Reading.{IsHead}
-use Rattle.directory_pages.proofs.Words.{AreBytes, word_is, words_in, length-words_in, words_in_fit, words_are}
 use Rattle.directory_pages.proofs.Standing.{head_is, page_is, rest_of, part_there}
-
--- a part of a page that is zeros
-zeros_are : (from to : ℕ) (page : List ℕ) → from ≤ to → to ≤ length page → AreZeros from to page → drop from page ≡ replicate (to - from) 0 ++ drop to page
-zeros_are from to page le low zeros =
-    let n = to - from in
-    let same : take n (drop from page) ≡ replicate n 0 = zeros_same from to (length page) page le low refl zeros ∙ take-replicate n (length page) 0 (omega arith) in
-    sym (take-append-drop n (drop from page))
-    ∙ ap (λ (z : List ℕ). z ++ drop n (drop from page)) same
-    ∙ ap (λ (r : List ℕ). replicate n 0 ++ r) (drop-drop n from page ∙ ap (λ (k : ℕ). drop k page) (omega arith))
 
 head_joined : (part count : ℕ) (page : List ℕ) → IsHead part count page → 96 ≤ length page → AreBytes page → page ≡ head part count ++ drop 96 page
 head_joined part count page h low fits =
     let body = drop 96 page in
     let at12 : drop 12 page ≡ replicate 84 0 ++ body = zeros_are 12 96 page (omega arith) low h.rest in
-    let at8 : drop 8 page ≡ bytes_of 4 count ++ (replicate 84 0 ++ body) = word_is 8 12 page (omega arith) fits refl ∙ ap (λ (n : ℕ). bytes_of 4 n ++ drop 12 page) h.count_is ∙ ap (λ (r : List ℕ). bytes_of 4 count ++ r) at12 in
-    let at4 : drop 4 page ≡ bytes_of 4 part ++ (bytes_of 4 count ++ (replicate 84 0 ++ body)) = word_is 4 8 page (omega arith) fits refl ∙ ap (λ (n : ℕ). bytes_of 4 n ++ drop 8 page) h.part_is ∙ ap (λ (r : List ℕ). bytes_of 4 part ++ r) at8 in
+    let at8 : drop 8 page ≡ bytes_of 4 count ++ (replicate 84 0 ++ body) = number_is 4 8 12 page (omega arith) fits refl ∙ ap (λ (n : ℕ). bytes_of 4 n ++ drop 12 page) h.count_is ∙ ap (λ (r : List ℕ). bytes_of 4 count ++ r) at12 in
+    let at4 : drop 4 page ≡ bytes_of 4 part ++ (bytes_of 4 count ++ (replicate 84 0 ++ body)) = number_is 4 4 8 page (omega arith) fits refl ∙ ap (λ (n : ℕ). bytes_of 4 n ++ drop 8 page) h.part_is ∙ ap (λ (r : List ℕ). bytes_of 4 part ++ r) at8 in
     let fields : page ≡ codes "GFD1" ++ (bytes_of 4 part ++ (bytes_of 4 count ++ (replicate 84 0 ++ body))) = sym (take-append-drop 4 page) ∙ ap (λ (k : List ℕ). k ++ drop 4 page) h.kind ∙ ap (λ (r : List ℕ). codes "GFD1" ++ r) at4 in
     let joined : (codes "GFD1" ++ (bytes_of 4 part ++ (bytes_of 4 count ++ replicate 84 0))) ++ body ≡ codes "GFD1" ++ (bytes_of 4 part ++ (bytes_of 4 count ++ (replicate 84 0 ++ body))) = simp append_assoc in
     fields ∙ sym joined ∙ ap (λ (k : List ℕ). k ++ body) (sym (head_is part count))
 
-body_joined : (count : ℕ) (page : List ℕ) → count ≤ 1000 → AreZeros (96 + 4 * count) 4096 page → length page ≡ 4096 → AreBytes page → drop 96 page ≡ words_of (words_in 96 count page) ++ rest_of count
+cells_are : (at n : ℕ) (page : List ℕ) → at + 4 * n ≤ length page → AreBytes page → drop at page ≡ words_of (entries_in 4 at n page) ++ drop (at + 4 * n) page
+unfolding words_of
+cells_are at n page le fits = entries_are 4 at n page le fits
+
+body_joined : (count : ℕ) (page : List ℕ) → count ≤ 1000 → AreZeros (96 + 4 * count) 4096 page → length page ≡ 4096 → AreBytes page → drop 96 page ≡ words_of (entries_in 4 96 count page) ++ rest_of count
 body_joined count page few zeros long fits =
     let left : 4096 - (96 + 4 * count) ≡ 4000 - 4 * count = omega arith in
     let tail : drop (96 + 4 * count) page ≡ rest_of count =
@@ -36,20 +31,20 @@ body_joined count page few zeros long fits =
     ∙ ap (λ (r : List ℕ). replicate (4096 - (96 + 4 * count)) 0 ++ r) (drop_all 4096 page (omega arith))
     ∙ append-nil (replicate (4096 - (96 + 4 * count)) 0)
     ∙ ap (λ (n : ℕ). replicate n 0) left in
-    words_are 96 count page (omega arith) fits ∙ ap (λ (r : List ℕ). words_of (words_in 96 count page) ++ r) tail
+    cells_are 96 count page (omega arith) fits ∙ ap (λ (r : List ℕ). words_of (entries_in 4 96 count page) ++ r) tail
 
 -- a page with that head, and zeros behind so many cells, is that part
 pub joined : (part count : ℕ) (page : List ℕ) → part < 2 ^ 32 → count ≤ 1000 → length page ≡ 4096 → AreBytes page → IsHead part count page → AreZeros (96 + 4 * count) 4096 page → IsPart part count page
 joined part count page fit few long fits h zeros =
-    let cells = words_in 96 count page in
-    let size : length cells ≡ count = length-words_in 96 count page in
+    let cells = entries_in 4 96 count page in
+    let size : length cells ≡ count = length-entries_in 4 96 count page in
     let spelled : page ≡ head part count ++ (words_of cells ++ rest_of count) = head_joined part count page h (omega arith) fits ∙ ap (λ (r : List ℕ). head part count ++ r) (body_joined count page few zeros long fits) in
     record {
       cells = cells;
       count_is = size;
       spelled = record {
         part_in_range = fit;
-        in_range = words_in_fit 96 count page fits;
+        in_range = entries_fit 4 96 count page fits;
         few = omega (arith, size);
         bytes = spelled ∙ ap (λ (n : ℕ). head part n ++ (words_of cells ++ rest_of n)) (sym size) ∙ sym (page_is part cells);
       };

@@ -2,11 +2,12 @@
 use Rattle.std.proofs.Common.{◌≡◌, ◌<◌, ◌+◌, ◌*◌, ◌^◌, ℕ, suc, List, ◌∷◌, ◌++◌, length, take, drop, get_or, slice_set, set, sym, ap, ◌∙◌, append_assoc, length-append, arith}
 use Rattle.std.proofs.lemmas.List.{take_at, drop_at, set_split, length-set, length-take-le, take-append-drop, drop_more}
 use Rattle.page_fields.specs.Fields.{bytes_of, replaced}
-use Rattle.page_fields.proofs.BytesOf.{length-bytes_of}
+use Rattle.page_fields.specs.Padded.{words_of}
+use Rattle.page_fields.proofs.BytesOf.{length-bytes_of, length-words}
 use Rattle.page_fields.proofs.Steps.{set_below}
-use Rattle.grid_model.specs.Spellings.{words_of, directory_page}
+use Rattle.grid_model.specs.Spellings.{directory_page}
 use Rattle.directory_pages.specs.Spelling.{head, Spells}
-use Rattle.directory_pages.proofs.Words.{length-words, words-append, words-cons}
+use Rattle.directory_pages.proofs.Words.{words-append, words-cons}
 use Rattle.directory_pages.proofs.Standing.{page_is, length-head, rest_of}
 
 -- the middle of three parts gets other bytes, as many

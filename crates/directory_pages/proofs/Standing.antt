@@ -2,14 +2,15 @@
 use Rattle.std.proofs.Common.{◌≡◌, ◌<◌, ◌≤◌, ◌+◌, ◌-◌, ◌*◌, ◌^◌, ℕ, List, [], ◌++◌, length, take, drop, get_or, slice_index, replicate, sym, ap, ◌∙◌, append_assoc, length-append, arith, codes, refl}
 use Rattle.std.proofs.lemmas.List.{drop-drop, take_at, append-nil, get_or-drop, get_or-replicate, get_or_append_left, length-replicate, same_lists, get_or_default}
 use Rattle.page_fields.specs.Fields.{number, bytes_of, AreZeros}
-use Rattle.page_fields.specs.Padded.{padded}
-use Rattle.page_fields.proofs.BytesOf.{number-back, length-bytes_of}
-use Rattle.page_fields.proofs.Places.{behind, part_at}
-use Rattle.grid_model.specs.Spellings.{words_of, page, directory_page}
+use Rattle.page_fields.specs.Padded.{padded, words_of}
+use Rattle.page_fields.proofs.BytesOf.{number-back, length-bytes_of, length-words}
+use Rattle.page_fields.proofs.Entries.{entry_there}
+use Rattle.page_fields.proofs.Places.{behind}
+use Rattle.page_fields.proofs.ZeroParts.{zeros_spelled}
+use Rattle.grid_model.specs.Spellings.{page, directory_page}
 use Rattle.directory_pages.specs.Spelling.{head, Spells, bucket_in}
 use Rattle.directory_pages.specs.Reading.{IsHead}
 use Rattle.directory_pages.specs.Laws.{IsOne}
-use Rattle.directory_pages.proofs.Words.{length-words}
 
 -- the zeros behind n cells
 abbrev pub rest_of : ℕ → List ℕ
@@ -37,29 +38,15 @@ pub page_is : (part : ℕ) (cells : List ℕ) → directory_page part cells ≡ 
 unfolding directory_page page head padded
 page_is part cells = ap (λ (n : ℕ). head part (length cells) ++ (words_of cells ++ replicate (4000 - n) 0)) (length-words cells)
 
--- zeros stand where they were spelled
-zeros_at : (from to n : ℕ) (page rest : List ℕ) → drop from page ≡ replicate n 0 ++ rest → to ≤ from + n → AreZeros from to page
-zeros_at from to n page rest e le i low high =
-    let lt : i - from < n = omega arith in
-    let long : length (replicate {A = ℕ} n 0) ≡ n = length-replicate {A = ℕ} n 0 in
-    ap (λ (k : ℕ). get_or page k 0) (omega arith)
-    ∙ sym (get_or-drop from page (i - from) 0)
-    ∙ ap (λ (xs : List ℕ). get_or xs (i - from) 0) e
-    ∙ get_or_append_left (replicate n 0) rest 0 (i - from) (omega arith)
-    ∙ get_or-replicate n (i - from) 0 0 lt
-
 -- each field of a directory page stands at its offset
 pub record PartAt (part : ℕ) (page cells : List ℕ) : Type 0 where
   pub front : IsHead part (length cells) page
   pub each : (i : ℕ) → i < length cells → slice_index cells i ≡ bucket_in i page
   pub zeros : AreZeros (96 + 4 * length cells) 4096 page
 
-cell_there : (page cells rest : List ℕ) → drop 96 page ≡ words_of cells ++ rest → ((i : ℕ) → slice_index cells i < 2 ^ 32) → (i : ℕ) → i < length cells → slice_index cells i ≡ bucket_in i page
+cell_there : (page cells : List ℕ) → drop 96 page ≡ words_of cells ++ rest_of (length cells) → ((i : ℕ) → slice_index cells i < 2 ^ 32) → (i : ℕ) → i < length cells → slice_index cells i ≡ bucket_in i page
 unfolding words_of
-cell_there page cells rest e fits i lt =
-    let p = part_at (bytes_of 4) 4 cells rest i 0 (λ k h. length-bytes_of 4 (get_or cells k 0)) lt in
-    let there : drop (96 + 4 * i) page ≡ bytes_of 4 (get_or cells i 0) ++ p.0 = sym (drop-drop (4 * i) 96 page) ∙ ap (drop (4 * i)) e ∙ p.1 in
-    sym (ap (number 4) there ∙ number-back 4 (get_or cells i 0) p.0 (fits i))
+cell_there page cells e fits i lt = entry_there 4 96 page cells (rest_of (length cells)) e fits i lt
 
 -- cells stand where they are spelled
 pub part_there : (part : ℕ) (page cells : List ℕ) → Spells part page cells → PartAt part page cells
@@ -79,10 +66,10 @@ part_there part page cells s =
         kind = ap (take 4) at0 ∙ take_at (codes "GFD1") (bytes_of 4 part ++ after4) 4 refl;
         part_is = ap (number 4) at4 ∙ number-back 4 part after4 s.part_in_range;
         count_is = ap (number 4) at8 ∙ number-back 4 n after8 (omega (arith, s.few));
-        rest = zeros_at 12 96 84 page body at12 (omega arith);
+        rest = zeros_spelled 12 96 84 page body at12 (omega arith);
       };
-      each = cell_there page cells (rest_of n) at96 s.in_range;
-      zeros = zeros_at (96 + 4 * n) 4096 (4000 - 4 * n) page [] (end ∙ sym (append-nil (rest_of n))) (omega (arith, s.few));
+      each = cell_there page cells at96 s.in_range;
+      zeros = zeros_spelled (96 + 4 * n) 4096 (4000 - 4 * n) page [] (end ∙ sym (append-nil (rest_of n))) (omega (arith, s.few));
     }
 
 -- in a page stand the cells of one part

@@ -3,7 +3,7 @@ ghost use Rattle.std.specs.Prelude.{◌≡◌, ◌≤◌, length, take};
 ghost use Rattle.grid_model.specs.Spellings.{directory_page};
 ghost use Rattle.directory_pages.specs.Spelling.{Spells, head};
 
-use page_fields::{put_bytes, put_zeros, set_u32};
+use page_fields::{put_bytes, put_words, put_zeros, set_u32};
 
 fn put_head(page: &mut [u8; 4096], part: u32, count: u32)
     ensures front { take 96 page.new ≡ head part count }
@@ -22,8 +22,6 @@ pub fn encode(part: u32, cells: &[u32], page: &mut [u8; 4096])
     ensures spelled { Spells part page.new cells.now }
 {
     put_head(page, part, cells.len() as u32);
-    for (i, cell) in cells.iter().enumerate() {
-        set_u32(page, 96 + 4 * i, *cell);
-    }
+    put_words(page, 96, cells);
     put_zeros(page, 96 + 4 * cells.len(), 4096);
 }

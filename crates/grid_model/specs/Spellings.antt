@@ -2,7 +2,7 @@
 use Rattle.std.specs.Prelude.{ℕ, List, [], ◌∷◌, ◌++◌, cond, length, codes, replicate}
 use Rattle.std.specs.List.{flat_map}
 use Rattle.page_fields.specs.Fields.{bytes_of}
-use Rattle.page_fields.specs.Padded.{padded, numbers}
+use Rattle.page_fields.specs.Padded.{padded, numbers, words_of}
 use Rattle.grid_types.specs.declared.region.Region.{Region}
 use Rattle.grid_types.specs.declared.shape.Shape.{Shape}
 use Rattle.grid_types.specs.declared.update.Record.{Record}
@@ -12,10 +12,6 @@ use Rattle.grid_types.specs.declared.note.NoteOf.{NoteOf}
 use Rattle.grid_types.specs.declared.note.NoteOf.TheVariants as note
 use Rattle.grid_types.specs.declared.note.Noted.{Noted}
 use Rattle.grid_model.specs.Notes.{key_of}
-
--- numbers of four bytes, one behind the other
-unfoldable pub words_of : List ℕ → List ℕ
-words_of ns = flat_map (bytes_of 4) ns
 
 -- a page is a head of 96 bytes and a body of 4,000, both filled up with zeros
 unfoldable pub page : List ℕ → List ℕ → List ℕ

@@ -5,7 +5,7 @@ use Rattle.std.specs.Prelude.{replicate}
 use Rattle.std.proofs.lemmas.List.{take_more, flat_map_more, length-replicate}
 use Rattle.byteorder.specs.Numbers.{big_number-reads_back, length-bytes_high_first}
 use Rattle.page_fields.specs.Fields.{number, bytes_of}
-use Rattle.page_fields.specs.Padded.{padded, numbers}
+use Rattle.page_fields.specs.Padded.{padded, numbers, words_of}
 
 -- a number whose bytes are read is that number
 pub number-back : (n x : ℕ) (rest : List ℕ) → x < 256 ^ n → number n (bytes_of n x ++ rest) ≡ x
@@ -38,3 +38,17 @@ padded_is n k bytes is = ap (λ (m : ℕ). bytes ++ replicate m 0) is
 pub length-padded : (n : ℕ) (bytes : List ℕ) → length bytes ≤ n → length (padded n bytes) ≡ n
 unfolding padded
 length-padded n bytes le = length-append bytes (replicate (n - length bytes) 0) ∙ omega (arith, length-replicate {A = ℕ} (n - length bytes) 0)
+
+pub length-words : (ns : List ℕ) → length (words_of ns) ≡ 4 * length ns
+unfolding words_of
+length-words [] = refl
+length-words (n ∷ ns) = length-append (bytes_of 4 n) (flat_map (bytes_of 4) ns) ∙ omega (arith, length-bytes_of 4 n, length-words ns)
+
+pub words_none : words_of [] ≡ []
+unfolding words_of
+words_none = refl
+
+-- one number of four bytes more
+pub words_more : (ns : List ℕ) (i d : ℕ) → i < length ns → words_of (take i ns) ++ bytes_of 4 (get_or ns i d) ≡ words_of (take (i + 1) ns)
+unfolding words_of
+words_more ns i d lt = flat_map_more (bytes_of 4) [] (take i ns) (get_or ns i d) ∙ ap (λ (ys : List ℕ). flat_map (bytes_of 4) ys) (sym (take_more ns i d lt))

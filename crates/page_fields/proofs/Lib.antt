@@ -1,4 +1,5 @@
 pub mod BytesOf
+pub mod Entries
 pub mod Joining
 pub mod Parts
 pub mod Places

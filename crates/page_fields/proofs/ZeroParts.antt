@@ -1,7 +1,7 @@
 -- Parts of a page that are zeros.
-use Rattle.std.proofs.Common.{◌≡◌, ◌≤◌, ◌<◌, ◌+◌, ◌-◌, ℕ, List, length, take, drop, get_or, sym, ap, ◌∙◌, arith}
+use Rattle.std.proofs.Common.{◌≡◌, ◌≤◌, ◌<◌, ◌+◌, ◌-◌, ℕ, List, ◌++◌, length, take, drop, get_or, refl, sym, ap, ◌∙◌, arith}
 use Rattle.std.specs.Prelude.{replicate}
-use Rattle.std.proofs.lemmas.List.{get_or-take, get_or-drop, get_or-replicate, same_lists, get_or_default, length-drop, length-take-le, length-replicate}
+use Rattle.std.proofs.lemmas.List.{drop-drop, take-append-drop, take-replicate, get_or_append_left, get_or-take, get_or-drop, get_or-replicate, same_lists, get_or_default, length-drop, length-take-le, length-replicate}
 use Rattle.page_fields.specs.Fields.{AreZeros}
 
 -- a number of the part
@@ -28,3 +28,23 @@ zeros_same from to size page ordered le len zeros =
     ∙ get_or_default page (from + k) d 0 (omega arith)
     ∙ zeros (from + k) (omega arith) (omega arith)
     ∙ sym (zero_at (to - from) size k d (omega arith) lt))
+
+-- zeros stand where they are spelled
+pub zeros_spelled : (from to n : ℕ) (page rest : List ℕ) → drop from page ≡ replicate n 0 ++ rest → to ≤ from + n → AreZeros from to page
+zeros_spelled from to n page rest e le i low high =
+    let lt : i - from < n = omega arith in
+    let long : length (replicate {A = ℕ} n 0) ≡ n = length-replicate {A = ℕ} n 0 in
+    ap (λ (k : ℕ). get_or page k 0) (omega arith)
+    ∙ sym (get_or-drop from page (i - from) 0)
+    ∙ ap (λ (xs : List ℕ). get_or xs (i - from) 0) e
+    ∙ get_or_append_left (replicate n 0) rest 0 (i - from) (omega arith)
+    ∙ get_or-replicate n (i - from) 0 0 lt
+
+-- a part of a page that is zeros is spelled as zeros
+pub zeros_are : (from to : ℕ) (page : List ℕ) → from ≤ to → to ≤ length page → AreZeros from to page → drop from page ≡ replicate (to - from) 0 ++ drop to page
+zeros_are from to page le low zeros =
+    let n = to - from in
+    let same : take n (drop from page) ≡ replicate n 0 = zeros_same from to (length page) page le low refl zeros ∙ take-replicate n (length page) 0 (omega arith) in
+    sym (take-append-drop n (drop from page))
+    ∙ ap (λ (z : List ℕ). z ++ drop n (drop from page)) same
+    ∙ ap (λ (r : List ℕ). replicate n 0 ++ r) (drop-drop n from page ∙ ap (λ (k : ℕ). drop k page) (omega arith))

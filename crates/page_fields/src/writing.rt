@@ -1,10 +1,10 @@
 //! Fields that are written into a page. Each writer says what the page is then, and how far its front is known if it
 //! was known up to the field.
-ghost use Rattle.std.specs.Prelude.{◌≡◌, ◌≤◌, ◌+◌, ◌-◌, ◌++◌, length, replicate, take};
+ghost use Rattle.std.specs.Prelude.{◌≡◌, ◌≤◌, ◌+◌, ◌-◌, ◌*◌, ◌++◌, length, replicate, take};
 ghost use Rattle.page_fields.specs.Fields.{replaced};
-ghost use Rattle.page_fields.specs.Padded.{numbers, padded};
+ghost use Rattle.page_fields.specs.Padded.{numbers, padded, words_of};
 
-use crate::set_u64;
+use crate::{set_u32, set_u64};
 
 pub fn put_bytes(page: &mut [u8; 4096], at: usize, bytes: &[u8])
     requires { at + length bytes.now ≤ 4096 }
@@ -35,4 +35,26 @@ pub fn put_corner<const K: usize>(page: &mut [u8; 4096], at: usize, corner: &[u6
         set_u64(page, at + 8 * a, corner[a]);
     }
     put_zeros(page, at + 8 * K, at + 32);
+}
+
+/// Writes numbers of four bytes, one behind the other.
+pub fn put_words(page: &mut [u8; 4096], at: usize, words: &[u32])
+    requires { at + 4 * length words.now ≤ 4096 }
+    ensures written { page.new ≡ replaced at (words_of words.now) page.old }
+    ensures front { take (at + 4 * length words.now) page.new ≡ take at page.old ++ words_of words.now }
+{
+    for (i, word) in words.iter().enumerate() {
+        set_u32(page, at + 4 * i, *word);
+    }
+}
+
+/// Writes numbers of eight bytes, one behind the other.
+pub fn put_numbers(page: &mut [u8; 4096], at: usize, words: &[u64])
+    requires { at + 8 * length words.now ≤ 4096 }
+    ensures written { page.new ≡ replaced at (numbers words.now) page.old }
+    ensures front { take (at + 8 * length words.now) page.new ≡ take at page.old ++ numbers words.now }
+{
+    for (i, word) in words.iter().enumerate() {
+        set_u64(page, at + 8 * i, *word);
+    }
 }
