@@ -1,0 +1,29 @@
+-- What a page of a table area says.
+use Rattle.std.specs.Prelude.{◌≡◌, ◌<◌, ◌≤◌, ◌^◌, ℕ, List, length, slice_index}
+use Rattle.std.specs.List.{flat_map}
+use Rattle.page_fields.specs.Fields.{bytes_of}
+use Rattle.grid_model.specs.Spellings.{area_head, page, scale_page, list_page, bucket_table_page}
+
+-- the page of a table area of this kind, with these entries of w bytes each
+unfoldable pub entries_page : ℕ → List ℕ → ℕ → ℕ → List ℕ → List ℕ
+entries_page w kind root index entries = page (area_head kind index (length entries) root) (flat_map (bytes_of w) entries)
+
+-- a page spells these entries for a root at an index of its table area: it is the page that the spelling makes of them, there are no more than fit on it, and all numbers are in their ranges
+pub record SpellsEntries (spelling : ℕ → ℕ → List ℕ → List ℕ) (most bits root index : ℕ) (page entries : List ℕ) : Type 0 where
+  pub root_in_range : root < 2 ^ 64
+  pub index_in_range : index < 2 ^ 32
+  pub in_range : (i : ℕ) → slice_index entries i < 2 ^ bits
+  pub few : length entries ≤ most
+  pub bytes : page ≡ spelling root index entries
+
+-- a page spells these boundaries of a scale, which are at most 500 and have 64 bits
+abbrev pub SpellsScale : ℕ → ℕ → List ℕ → List ℕ → Type 0
+SpellsScale root index page boundaries = SpellsEntries scale_page 500 64 root index page boundaries
+
+-- a page spells these data pages of directory parts, which are at most a thousand and have 32 bits
+abbrev pub SpellsList : ℕ → ℕ → List ℕ → List ℕ → Type 0
+SpellsList root index page pages = SpellsEntries list_page 1000 32 root index page pages
+
+-- a page spells these data pages of bucket numbers, which are at most a thousand and have 32 bits
+abbrev pub SpellsTable : ℕ → ℕ → List ℕ → List ℕ → Type 0
+SpellsTable root index page pages = SpellsEntries bucket_table_page 1000 32 root index page pages

@@ -1,0 +1,79 @@
+//! The bytes of a header page.
+ghost use Rattle.std.specs.Prelude.{◌≡◌, ◌≤◌, ◌+◌, ◌-◌, ◌*◌, ◌++◌, replicate, IsTrue, slice_index, take};
+ghost use Rattle.grid_types.specs.Shapes.{is_shape};
+ghost use Rattle.page_fields.specs.Fields.{bytes_of};
+ghost use Rattle.page_fields.specs.Padded.{padded, words_of};
+ghost use Rattle.grid_model.specs.Spellings.{shape_bytes, root_bytes};
+ghost use Rattle.root_pages.specs.Fields.{fields_of};
+
+use crate::RootFields;
+use byteorder::{BigEndian, ByteOrder};
+use grid_types::Shape;
+use page_fields::{put_bytes, put_zeros, set_u16, set_u32};
+
+/// Makes `page` the header page of a new file of this shape, whatever it was before: its gate is closed, and it says
+/// nothing of a root.
+pub fn encode_header(shape: &Shape, page: &mut [u8; 4096])
+    requires { IsTrue (is_shape shape.now) }
+    ensures written { page.new ≡ padded 4096 (shape_bytes shape.now) }
+    ensures front { take 64 page.new ≡ shape_bytes shape.now }
+    ensures closed { slice_index page.new 64 ≡ 0 }
+{
+    put_bytes(page, 0, b"GRIDFILE");
+    set_u16(page, 8, 1);
+    put_bytes(page, 10, &[shape.k, 0]);
+    set_u16(page, 12, shape.capacity);
+    put_bytes(page, 14, &[0, 0]);
+    set_u32(page, 16, shape.pages);
+    set_u32(page, 20, shape.slots);
+    set_u32(page, 24, shape.boundaries);
+    set_u32(page, 28, shape.cells);
+    put_zeros(page, 32, 4096);
+}
+
+fn put_u64(bytes: &mut [u8; 56], at: usize, v: u64)
+    requires { at + 8 ≤ 56 }
+    ensures { take (at + 8) bytes.new ≡ take at bytes.old ++ bytes_of 8 v }
+{
+    BigEndian::write_u64(&mut bytes[at..at + 8], v);
+}
+
+fn put_u32(bytes: &mut [u8; 56], at: usize, v: u32)
+    requires { at + 4 ≤ 56 }
+    ensures { take (at + 4) bytes.new ≡ take at bytes.old ++ bytes_of 4 v }
+{
+    BigEndian::write_u32(&mut bytes[at..at + 4], v);
+}
+
+fn clear(bytes: &mut [u8; 56], from: usize, to: usize)
+    requires ordered { from ≤ to }
+    requires inside { to ≤ 56 }
+    ensures { take to bytes.new ≡ take from bytes.old ++ replicate (to - from) 0 }
+{
+    bytes[from..to].fill(0);
+}
+
+/// Writes how many boundaries each scale has, and zeros for the scales that there are not.
+fn put_counts<const K: usize>(bytes: &mut [u8; 56], counts: &[u32; K])
+    requires { K ≤ 4 }
+    ensures { take 48 bytes.new ≡ take 32 bytes.old ++ padded 16 (words_of counts.now) }
+{
+    for a in 0..K {
+        put_u32(bytes, 32 + 4 * a, counts[a]);
+    }
+    clear(bytes, 32 + 4 * K, 48);
+}
+
+/// Makes `bytes` the fields of a root as a header page has them from byte 72 on.
+pub fn encode_fields<const K: usize>(fields: &RootFields<K>, bytes: &mut [u8; 56])
+    requires { K ≤ 4 }
+    ensures { bytes.new ≡ root_bytes (fields_of fields.now) }
+{
+    put_u64(bytes, 0, fields.number);
+    put_u64(bytes, 8, fields.session);
+    put_u64(bytes, 16, fields.front);
+    put_u64(bytes, 24, fields.records);
+    put_counts(bytes, &fields.boundaries);
+    put_u32(bytes, 48, fields.parts);
+    put_u32(bytes, 52, fields.buckets);
+}
