@@ -1,2 +1,9 @@
 pub mod Heads
 pub mod Shapes
+pub mod ShapePlaces
+pub mod RootPlaces
+pub mod Standing
+pub mod Joining
+pub mod Counts
+pub mod KindsOfPages
+pub mod Roots

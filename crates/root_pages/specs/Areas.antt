@@ -27,3 +27,21 @@ SpellsList root index page pages = SpellsEntries list_page 1000 32 root index pa
 -- a page spells these data pages of bucket numbers, which are at most a thousand and have 32 bits
 abbrev pub SpellsTable : ℕ → ℕ → List ℕ → List ℕ → Type 0
 SpellsTable root index page pages = SpellsEntries bucket_table_page 1000 32 root index page pages
+
+-- a page has so many entries: there are as many that it spells
+pub record HasEntries (spells : List ℕ → List ℕ → Type 0) (count : ℕ) (page : List ℕ) : Type 0 where
+  pub entries : List ℕ
+  pub count_is : length entries ≡ count
+  pub spelled : spells page entries
+
+-- a page has so many boundaries of a scale, for a root at an index of its table area
+abbrev pub IsScalePage : ℕ → ℕ → ℕ → List ℕ → Type 0
+IsScalePage root index count page = HasEntries (SpellsScale root index) count page
+
+-- a page has the data pages of so many directory parts, for a root at an index of its table area
+abbrev pub IsListPage : ℕ → ℕ → ℕ → List ℕ → Type 0
+IsListPage root index count page = HasEntries (SpellsList root index) count page
+
+-- a page has the data pages of so many bucket numbers, for a root at an index of its table area
+abbrev pub IsTablePage : ℕ → ℕ → ℕ → List ℕ → Type 0
+IsTablePage root index count page = HasEntries (SpellsTable root index) count page
