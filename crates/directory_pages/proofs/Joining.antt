@@ -1,6 +1,6 @@
 -- A page whose fields are those of a directory page is the spelling of the cells that it has.
-use Rattle.std.proofs.Common.{◌≡◌, ◌≤◌, ◌+◌, ◌-◌, ◌*◌, ◌^◌, ◌<◌, ℕ, List, ◌++◌, length, take, drop, replicate, sym, ap, subst, ◌∙◌, append_assoc, arith, codes, refl}
-use Rattle.std.proofs.lemmas.List.{drop-drop, take-append-drop, take-replicate, drop_all, append-nil}
+use Rattle.std.proofs.Common.{◌≡◌, ◌≤◌, ◌+◌, ◌-◌, ◌*◌, ◌^◌, ◌<◌, ℕ, List, ◌++◌, length, drop, replicate, sym, ap, subst, ◌∙◌, append_assoc, arith, codes, refl}
+use Rattle.std.proofs.lemmas.List.{take-append-drop, drop_all, append-nil}
 use Rattle.page_fields.specs.Fields.{bytes_of, AreZeros}
 use Rattle.page_fields.specs.Padded.{words_of}
 use Rattle.page_fields.proofs.Entries.{AreBytes, number_is, entries_in, length-entries_in, entries_fit, entries_are}

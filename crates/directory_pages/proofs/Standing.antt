@@ -1,6 +1,6 @@
 -- What stands in a page where cells are spelled: the head, each cell at its offset, and zeros behind them.
-use Rattle.std.proofs.Common.{◌≡◌, ◌<◌, ◌≤◌, ◌+◌, ◌-◌, ◌*◌, ◌^◌, ℕ, List, [], ◌++◌, length, take, drop, get_or, slice_index, replicate, sym, ap, ◌∙◌, append_assoc, length-append, arith, codes, refl}
-use Rattle.std.proofs.lemmas.List.{drop-drop, take_at, append-nil, get_or-drop, get_or-replicate, get_or_append_left, length-replicate, same_lists, get_or_default}
+use Rattle.std.proofs.Common.{◌≡◌, ◌<◌, ◌+◌, ◌-◌, ◌*◌, ◌^◌, ℕ, List, [], ◌++◌, length, take, drop, slice_index, replicate, sym, ap, ◌∙◌, append_assoc, length-append, arith, codes, refl}
+use Rattle.std.proofs.lemmas.List.{take_at, append-nil, same_lists, get_or_default}
 use Rattle.page_fields.specs.Fields.{number, bytes_of, AreZeros}
 use Rattle.page_fields.specs.Padded.{padded, words_of}
 use Rattle.page_fields.proofs.BytesOf.{number-back, length-bytes_of, length-words}

@@ -17,3 +17,6 @@ pub use fields::RootFields;
 pub use header_writing::{encode_fields, encode_header};
 pub use laws::spelling_law;
 pub use shape_reading::decode_shape;
+
+#[cfg(test)]
+mod tests;

@@ -1,0 +1,173 @@
+use super::*;
+use grid_types::Shape;
+use std::test::*;
+
+const SHAPE: Shape = Shape {
+    k: 2,
+    capacity: 3,
+    pages: 64,
+    slots: 8,
+    boundaries: 1000,
+    cells: 1_000_000,
+};
+
+const FIELDS: RootFields<2> = RootFields {
+    number: 258,
+    session: 7,
+    front: 65536,
+    records: 8,
+    boundaries: [3, 500],
+    parts: 3,
+    buckets: 5,
+};
+
+/// The page of a new file of this shape, where it is lawful.
+fn new_page(shape: &Shape) -> Option<[u8; 4096]> {
+    if !shape.lawful() {
+        return None;
+    }
+    let mut page = [9; 4096];
+    encode_header(shape, &mut page);
+    Some(page)
+}
+
+/// The root fields of a page, where they are lawful, and the shape and the header page are.
+fn lawful_fields<const K: usize>(
+    page: &[u8; 4096],
+    shape: &Shape,
+    header: u8,
+) -> Option<RootFields<K>> {
+    if !shape.lawful() {
+        return None;
+    }
+    if shape.k as usize != K {
+        return None;
+    }
+    if header > 1 {
+        return None;
+    }
+    decode_fields(page, shape, header)
+}
+
+#[test]
+fn a_header_is_laid_out(rt: HostRuntime) -> Result<(), Fail> {
+    spelling_law();
+    let page = new_page(&SHAPE).ok_or("the shape is lawful")?;
+    let mut expected = [0; 4096];
+    expected[..10].copy_from_slice(&[0x47, 0x52, 0x49, 0x44, 0x46, 0x49, 0x4c, 0x45, 0, 1]);
+    expected[10..16].copy_from_slice(&[2, 0, 0, 3, 0, 0]);
+    expected[16..24].copy_from_slice(&[0, 0, 0, 64, 0, 0, 0, 8]);
+    expected[24..32].copy_from_slice(&[0, 0, 3, 0xe8, 0, 0x0f, 0x42, 0x40]);
+    assert!(rt; page == expected);
+    assert!(rt; decode_shape(&page) == Some(SHAPE));
+    assert!(rt; !is_open(&page));
+    for i in 0..64 {
+        let mut other = page;
+        other[i] ^= 1;
+        assert!(rt; decode_shape(&other) != Some(SHAPE));
+    }
+    Ok(())
+}
+
+/// The header page with the fields of a root, by hand.
+fn root_page() -> [u8; 4096] {
+    let mut page = [0; 4096];
+    page[78..80].copy_from_slice(&[1, 2]);
+    page[87] = 7;
+    page[93] = 1;
+    page[103] = 8;
+    page[107] = 3;
+    page[110..112].copy_from_slice(&[1, 0xf4]);
+    page[123] = 3;
+    page[127] = 5;
+    page
+}
+
+#[test]
+fn root_fields_are_laid_out(rt: HostRuntime) -> Result<(), Fail> {
+    let mut page = root_page();
+    let mut bytes = [9; 56];
+    encode_fields(&FIELDS, &mut bytes);
+    assert!(rt; bytes[..] == page[72..128]);
+    assert_eq!(rt; root_number(&page), 258);
+    assert!(rt; lawful_fields(&page, &SHAPE, 0) == Some(FIELDS));
+    assert!(rt; lawful_fields::<2>(&page, &SHAPE, 1) == None);
+    page[64] = 1;
+    assert!(rt; is_open(&page));
+    page[64] = 255;
+    assert!(rt; !is_open(&page));
+    Ok(())
+}
+
+/// What makes the fields of a root unlawful: a byte of its page, and its value.
+const UNLAWFUL: [(u8, u8); 13] = [
+    (79, 3),
+    (72, 0x80),
+    (80, 0x80),
+    (88, 0x80),
+    (103, 16),
+    (96, 1),
+    (106, 4),
+    (115, 1),
+    (119, 1),
+    (123, 2),
+    (123, 4),
+    (127, 0),
+    (127, 64),
+];
+
+#[test]
+fn unlawful_fields_are_refused(rt: HostRuntime) -> Result<(), Fail> {
+    for (i, byte) in UNLAWFUL {
+        let mut page = root_page();
+        page[i as usize] = byte;
+        assert!(rt; lawful_fields::<2>(&page, &SHAPE, 0) == None);
+    }
+    let mut page = root_page();
+    page[72] = 0x80;
+    page[78] = 0;
+    page[79] = 0;
+    assert!(rt; lawful_fields::<2>(&page, &SHAPE, 0).is_some());
+    Ok(())
+}
+
+#[test]
+fn pages_of_a_table_area_are_laid_out(rt: HostRuntime) -> Result<(), Fail> {
+    let mut expected = [0; 4096];
+    expected[..12].copy_from_slice(&[0x47, 0x46, 0x53, 0x31, 0, 0, 0, 3, 0, 0, 0, 2]);
+    expected[16..24].copy_from_slice(&[1, 2, 3, 4, 5, 6, 7, 8]);
+    expected[96..112].copy_from_slice(&[0, 0, 0, 0, 0, 0, 0, 5, 255, 0, 0, 0, 0, 0, 0, 6]);
+    let mut page = [9; 4096];
+    encode_scale(0x0102030405060708, 3, &[5, 0xff00000000000006], &mut page);
+    assert!(rt; page == expected);
+    assert_eq!(rt; boundary_at(&page, 1), 0xff00000000000006);
+    for i in 0..4096 {
+        let mut other = page;
+        other[i] ^= 1;
+        assert_eq!(rt;
+            is_scale_page(&other, 0x0102030405060708, 3, 2),
+            96 <= i && i < 112
+        );
+    }
+    Ok(())
+}
+
+#[test]
+fn data_pages_are_laid_out(rt: HostRuntime) -> Result<(), Fail> {
+    let mut expected = [0; 4096];
+    expected[..12].copy_from_slice(&[0x47, 0x46, 0x4c, 0x31, 0, 0, 0, 8, 0, 0, 0, 2]);
+    expected[23] = 9;
+    expected[96..104].copy_from_slice(&[0, 0, 0, 5, 255, 255, 255, 255]);
+    let mut page = [9; 4096];
+    encode_list(9, 8, &[5, u32::MAX], &mut page);
+    assert!(rt; page == expected);
+    assert!(rt; is_list_page(&page, 9, 8, 2));
+    assert!(rt; !is_table_page(&page, 9, 8, 2));
+    expected[2] = 0x54;
+    encode_table(9, 8, &[5, u32::MAX], &mut page);
+    assert!(rt; page == expected);
+    assert!(rt; is_table_page(&page, 9, 8, 2));
+    assert!(rt; !is_table_page(&page, 9, 8, 1));
+    assert_eq!(rt; entry_at(&page, 1), u32::MAX);
+    Ok(())
+}
