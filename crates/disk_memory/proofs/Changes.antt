@@ -14,7 +14,7 @@ run_push h [] e = refl
 run_push h (f ∷ fs) e = run_push (turned h f) fs e
 
 -- what is held after one change more
-held_push : (p q : Past) (e : Change) → q ≡ with_change p e → held q ≡ turned (held p) e
+pub held_push : (p q : Past) (e : Change) → q ≡ with_change p e → held q ≡ turned (held p) e
 held_push p q e is = ap held is ∙ run_push (record { bytes = p.first; dirty = [] }) p.changes e
 
 -- one event more is one change more

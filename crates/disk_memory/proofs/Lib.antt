@@ -1,3 +1,4 @@
 pub mod Ranges
 pub mod Changes
 pub mod Places
+pub mod Walks

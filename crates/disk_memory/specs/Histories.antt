@@ -1,14 +1,16 @@
 -- What the fields of a disk's history stand for.
-use Rattle.std.specs.Prelude.{◌≡◌, ◌<◌, true, false, [], map, vec_len, vec_capacity}
+use Rattle.std.specs.Prelude.{◌≡◌, ◌<◌, true, false, [], length, map, All, vec_len, vec_capacity}
 use Rattle.disk_memory.specs.declared.history.History.TheInside.{Inside}
 use Rattle.disk_memory.specs.Events.{change_of}
 use Rattle.disk_memory.specs.Past.{Past, held}
+use Rattle.disk_memory.specs.OnDisk.{LiesInside}
 
 -- the past that is recorded
 abbrev pub past_of : Inside → Past
 past_of h = record { first = h.first.items; changes = map change_of h.events.items }
 
--- what is not on the disk leaves room for one event more
-pub record HasRoom (h : Inside) : Type 0 where
+-- what is not on the disk leaves room for one event more, and each write lies inside the disk
+pub record IsKept (h : Inside) : Type 0 where
+  pub inside : All (λ e. LiesInside (length h.first.items) (change_of e)) h.events.items
   pub clean : h.is_clean ≡ true → (held (past_of h)).dirty ≡ []
   pub room : h.is_clean ≡ false → vec_len h.events < vec_capacity h.events

@@ -2,8 +2,10 @@ pub mod Plans
 pub mod Pieces
 pub mod Past
 pub mod PastLaws
+pub mod OnDisk
 pub mod Events
 pub mod Histories
 pub mod Memories
+pub mod Fuses
 pub mod Bays
 pub mod Streams

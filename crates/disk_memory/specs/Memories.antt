@@ -5,6 +5,7 @@ use Rattle.disk_trait.specs.Disk.{Elapses}
 use Rattle.disk_trait.specs.Moments.{AgreesOutside}
 use Rattle.disk_memory.specs.declared.memory.Memory.{Memory}
 use Rattle.disk_memory.specs.Past.{held, HadBeen}
+use Rattle.disk_memory.specs.OnDisk.{on_disk}
 
 -- it tells its content
 abbrev pub is_told : Memory → Bool
@@ -17,6 +18,10 @@ bytes_of m = (held m.history).bytes
 -- the ranges written since the last sync, each its start and its length
 abbrev pub dirty_of : Memory → List (ℕ × ℕ)
 dirty_of m = (held m.history).dirty
+
+-- what is on the disk for good: what reads gave at the last sync
+abbrev pub on_disk_of : Memory → List ℕ
+on_disk_of m = on_disk m.history
 
 -- how many bytes it has
 abbrev pub extent_of : Memory → ℕ

@@ -1,8 +1,11 @@
 //! What a disk in memory has held since it was made.
-ghost use Rattle.std.specs.Prelude.{◌≡◌, ◌⊎◌, [], OnOk, OnErr, IfOk};
-ghost use Rattle.disk_memory.specs.Past.{Written, Failed, Synced, held, with_change};
+ghost use Rattle.std.specs.Prelude.{◌≡◌, ◌⊎◌, ◌+◌, ◌≤◌, ℕ, [], length, OnOk, OnErr, IfOk};
+ghost use Rattle.disk_trait.specs.Moments.{AgreesOutside};
+ghost use Rattle.disk_memory.specs.Past.{Written, Failed, Synced, held, with_change, Leaves};
 ghost use Rattle.disk_memory.specs.Events.{change_of};
+ghost use Rattle.disk_memory.specs.OnDisk.{LiesInside, on_disk, IsInside, IsOther};
 
+use crate::replay::{change_unsynced, replay, synced_count};
 use std::alloc::{AllocError, Global};
 use std::marker::Model;
 
@@ -29,11 +32,11 @@ impl Model for History {
 
     ghost Value = { Past };
 
-    ghost use Rattle.disk_memory.specs.Histories.{past_of, HasRoom};
+    ghost use Rattle.disk_memory.specs.Histories.{past_of, IsKept};
 
     ghost view = { past_of };
 
-    ghost invariant = { HasRoom };
+    ghost invariant = { IsKept };
 }
 
 impl History {
@@ -51,6 +54,7 @@ impl History {
     }
 
     pub fn record_write(&mut self, at: usize, bytes: &[u8]) -> Result<(), AllocError>
+        requires { at + length bytes.now ≤ length (held self.old).bytes }
         ensures recorded { OnOk result (self.new ≡ with_change self.old (Written at bytes.now)) }
         ensures refused { OnErr result (self.new ≡ self.old) }
     {
@@ -59,6 +63,7 @@ impl History {
     }
 
     pub fn record_failed_write(&mut self, at: usize, size: usize) -> Result<(), AllocError>
+        requires { at + size ≤ length (held self.old).bytes }
         ensures recorded { OnOk result (self.new ≡ with_change self.old (Failed at size)) }
         ensures refused { OnErr result (self.new ≡ self.old) }
     {
@@ -66,6 +71,7 @@ impl History {
     }
 
     fn add(&mut self, event: Event) -> Result<(), AllocError>
+        requires { LiesInside (length (held self.old).bytes) (change_of event) }
         ensures added { OnOk result (self.new ≡ with_change self.old (change_of event)) }
         ensures refused { OnErr result (self.new ≡ self.old) }
     {
@@ -87,5 +93,27 @@ impl History {
             unreachable!();
         };
         self.is_clean = true;
+    }
+
+    /// What was on the disk at the last sync, or at first where there was none.
+    pub fn on_disk(&self) -> Result<Vec<u8>, AllocError>
+        ensures bytes { IfOk result (λ v. v.items ≡ on_disk self.now) }
+        ensures left { IfOk result (λ v. Leaves (held self.now) v.items) }
+    {
+        let mut bytes = self.first.to_vec(self.alloc)?;
+        replay(&self.events[..synced_count(&self.events)], &mut bytes);
+        Ok(bytes)
+    }
+
+    /// What reads give, but with another byte wherever one is not on the disk yet.
+    pub fn changed(&self, bytes: &[u8]) -> Result<Vec<u8>, AllocError>
+        requires { bytes.now ≡ (held self.now).bytes }
+        ensures outside { IfOk result (λ v. AgreesOutside (held self.now).dirty bytes.now v.items) }
+        ensures inside { IfOk result (λ v. (i : ℕ) → IsInside (held self.now).dirty i → IsOther bytes.now (on_disk self.now) v.items i) }
+    {
+        let synced = self.on_disk()?;
+        let mut image = bytes.to_vec(self.alloc)?;
+        change_unsynced(&self.events, bytes, &synced, &mut image);
+        Ok(image)
     }
 }

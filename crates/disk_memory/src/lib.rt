@@ -4,14 +4,17 @@
 #![tactic(auto)]
 
 mod bay;
+mod fused;
 mod history;
 mod memory;
 mod piece;
 mod plan;
+mod replay;
 mod sink;
 mod source;
 
 pub use bay::MemoryBay;
+pub use fused::{Fused, Keep};
 pub use memory::Memory;
 pub use sink::ByteSink;
 pub use source::ByteSource;

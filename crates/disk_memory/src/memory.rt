@@ -1,11 +1,12 @@
 //! A disk in memory that tells all that it holds.
-ghost use Rattle.std.specs.Prelude.{◌≡◌, ◌↔◌, ◌⊎◌, List, ℕ, Contains, IsErr, ◌+◌, ◌*◌, ◌%◌, ◌++◌, ◌∷◌, ◌≤◌, [], length, IfOk, OnOk, OnErr};
+ghost use Rattle.std.specs.Prelude.{◌≡◌, ◌↔◌, ◌⊎◌, List, ℕ, Contains, IsErr, ◌+◌, ◌-◌, ◌^◌, min, ◌*◌, ◌%◌, ◌++◌, ◌∷◌, ◌≤◌, [], length, IfOk, OnOk, OnErr};
 ghost use Rattle.disk_trait.specs.Bay.{blank};
 ghost use Rattle.disk_trait.specs.Causes.{HasCause};
 ghost use Rattle.grid_types.specs.Pages.{page_of};
 ghost use Rattle.disk_trait.specs.Disk.{Only, Follows, Agrees, Holds, InOnePage};
 ghost use Rattle.disk_memory.specs.Past.{held};
 
+use crate::fused::Keep;
 use crate::history::History;
 use crate::plan::Plan;
 use disk_trait::{Disk, DiskFailed, Steps};
@@ -31,7 +32,8 @@ pub struct Memory {
 }
 
 impl Memory {
-    ghost use Rattle.disk_memory.specs.Memories.{bytes_of, dirty_of, extent_of, failed_reads, failed_writes, chosen_of, IsFresh, TellsSame};
+    ghost use Rattle.disk_memory.specs.Memories.{bytes_of, dirty_of, extent_of, failed_reads, failed_writes, chosen_of, IsFresh, TellsSame, MayLeave};
+    ghost use Rattle.disk_memory.specs.Fuses.{IsKept};
 
     /// A disk of that many pages, all zeros. It fails for want of memory, and where a `usize` can't count the bytes.
     pub fn new(alloc: Global, pages: u64) -> Result<Memory, AllocError>
@@ -47,6 +49,13 @@ impl Memory {
     /// A disk of whole pages with these bytes, all of them on the disk.
     pub fn of(alloc: Global, bytes: Vec<u8>) -> Result<Memory, AllocError>
         requires { length bytes.items % 4096 ≡ 0 }
+        ensures { IfOk result (IsFresh bytes.items) }
+    {
+        Memory::with_bytes(alloc, bytes)
+    }
+
+    /// A disk with these bytes, all of them on the disk.
+    fn with_bytes(alloc: Global, bytes: Vec<u8>) -> Result<Memory, AllocError>
         ensures { IfOk result (IsFresh bytes.items) }
     {
         let history = History::new(alloc, &bytes)?;
@@ -78,6 +87,39 @@ impl Memory {
         &self.bytes
     }
 
+    /// The disk that a crash now leaves, with all its bytes on the disk, and no failure counted or chosen.
+    pub(crate) fn image(self, keep: Keep) -> Result<Memory, AllocError>
+        ensures kept { IfOk result (λ m. IsKept keep self (bytes_of m)) }
+        ensures left { IfOk result (λ m. MayLeave self (bytes_of m)) }
+        ensures fresh { IfOk result (λ m. IsFresh (bytes_of m) m) }
+    {
+        let alloc = *self.bytes.allocator();
+        let bytes = match keep {
+            Keep::All => self.bytes,
+            Keep::None => self.history.on_disk()?,
+            Keep::Changed => self.history.changed(&self.bytes)?,
+        };
+        Memory::with_bytes(alloc, bytes)
+    }
+
+    /// Counts a read that is not made.
+    pub(crate) fn refuse_read(&mut self) -> DiskFailed
+        ensures counted { self.new ≡ record self.old { reads = min (self.old.reads + 1) (2 ^ 64 - 1) } }
+        ensures later { self.old.reads ≤ self.new.reads }
+    {
+        self.reads = self.reads.saturating_add(1);
+        DiskFailed
+    }
+
+    /// Counts a write or a sync that is not made.
+    pub(crate) fn refuse_write(&mut self) -> DiskFailed
+        ensures counted { self.new ≡ record self.old { writes = min (self.old.writes + 1) (2 ^ 64 - 1) } }
+        ensures later { self.old.writes ≤ self.new.writes }
+    {
+        self.writes = self.writes.saturating_add(1);
+        DiskFailed
+    }
+
     /// The same disk, with no failures counted.
     pub(crate) fn unfailed(self) -> Memory
         ensures { result ≡ record self { reads = 0; writes = 0 } }
@@ -92,7 +134,7 @@ impl Memory {
     }
 }
 
-fn overwrite(all: &mut [u8], at: usize, bytes: &[u8])
+pub fn overwrite(all: &mut [u8], at: usize, bytes: &[u8])
     requires { at + length bytes.now ≤ length all.old }
     ensures { Holds all.old at bytes.now all.new }
 {
@@ -158,8 +200,7 @@ impl Disk for Memory {
     {
         steps.tick();
         if self.plan.is_next_chosen() {
-            self.reads = self.reads.saturating_add(1);
-            return Err(DiskFailed);
+            return Err(self.refuse_read());
         }
         let at = page as usize * PAGE_SIZE;
         out.copy_from_slice(&self.bytes[at..at + PAGE_SIZE]);

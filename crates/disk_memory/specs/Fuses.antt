@@ -1,0 +1,22 @@
+-- What a disk behind a fuse tells, and what is kept of it at a crash.
+use Rattle.std.specs.Prelude.{◌≡◌, ℕ, List}
+use Rattle.disk_memory.specs.declared.memory.Memory.{Memory}
+use Rattle.disk_memory.specs.declared.fused.Fused.{Fused}
+use Rattle.disk_memory.specs.declared.fused.Keep.{Keep}
+use Rattle.disk_memory.specs.declared.fused.Keep.TheVariants as keep
+use Rattle.disk_memory.specs.OnDisk.{IsInside, IsOther}
+use Rattle.disk_memory.specs.Memories.{bytes_of, dirty_of, on_disk_of}
+
+-- the disk behind the fuse
+abbrev pub disk_of : Fused → Memory
+disk_of f = f.disk
+
+-- how many calls are still made
+abbrev pub calls_left : Fused → ℕ
+calls_left f = f.left
+
+-- what is kept of a disk: what reads give, or what was on the disk at the last sync, or what differs from both wherever something was written since
+abbrev pub IsKept : Keep → Memory → List ℕ → Type 0
+IsKept keep.All m image = image ≡ bytes_of m
+IsKept keep.None m image = image ≡ on_disk_of m
+IsKept keep.Changed m image = (i : ℕ) → IsInside (dirty_of m) i → IsOther (bytes_of m) (on_disk_of m) image i

@@ -1,0 +1,182 @@
+//! A disk in memory that stops.
+ghost use Rattle.std.specs.Prelude.{◌≡◌, ◌≢◌, ◌↔◌, ◌⊎◌, List, ℕ, Contains, IsErr, IsTrue, ◌+◌, ◌-◌, ◌*◌, ◌∷◌, ◌≤◌, [], length, IfOk, OnOk, OnErr};
+ghost use Rattle.disk_trait.specs.Causes.{HasCause};
+ghost use Rattle.grid_types.specs.Pages.{page_of};
+ghost use Rattle.disk_trait.specs.Disk.{Only, Follows, Agrees, Holds, InOnePage};
+
+use crate::memory::Memory;
+use disk_trait::{Disk, DiskFailed, Steps};
+use std::alloc::AllocError;
+use std::sync::ledger::Ledger;
+
+/// What a crash leaves of the bytes that are not on the disk yet: all of them, none, or others in their place.
+#[derive(Clone, Copy, Debug, PartialEq, Eq)]
+pub enum Keep {
+    All,
+    None,
+    Changed,
+}
+
+/// A disk in memory that makes some calls, and fails each one behind them: so a run is cut off at any call of it, and
+/// goes on from what a crash leaves there. A call that it does not make touches no byte.
+#[derive(Drop)]
+pub struct Fused {
+    disk: Memory,
+    left: u64,
+}
+
+impl Fused {
+    ghost use Rattle.disk_memory.specs.Memories.{bytes_of, IsFresh, MayLeave};
+    ghost use Rattle.disk_memory.specs.Fuses.{disk_of, calls_left, IsKept};
+
+    /// The disk, that makes so many more reads, writes and syncs.
+    pub fn new(disk: Memory, calls: u64) -> Fused
+        ensures disk { disk_of result ≡ disk }
+        ensures left { calls_left result ≡ calls }
+    {
+        Fused { disk, left: calls }
+    }
+
+    /// The disk that a crash now leaves. All its bytes are on the disk, and no failure is counted or chosen.
+    pub fn image(self, keep: Keep) -> Result<Memory, AllocError>
+        ensures kept { IfOk result (λ m. IsKept keep (disk_of self) (bytes_of m)) }
+        ensures left { IfOk result (λ m. MayLeave (disk_of self) (bytes_of m)) }
+        ensures fresh { IfOk result (λ m. IsFresh (bytes_of m) m) }
+    {
+        self.disk.image(keep)
+    }
+}
+
+/// Whether one more call is made.
+fn is_made(left: &mut u64) -> bool
+    ensures made { IsTrue result ↔ (left.old ≢ 0) }
+    ensures left { left.new ≡ left.old - 1 }
+{
+    if *left == 0 {
+        return false;
+    }
+    *left -= 1;
+    true
+}
+
+impl Disk for Fused {
+    ghost use Rattle.std.specs.Prelude.{length, refl};
+    ghost use Rattle.disk_memory.specs.Plans.{counted};
+    ghost use Rattle.disk_memory.specs.Memories.{TimeGoesOn, dirty_of, chosen_of, is_told, bytes_of, extent_of, MayLeave, moment_of, LeftSince, failed_reads, failed_writes, TellsSame};
+    ghost use Rattle.disk_memory.specs.Fuses.{disk_of, calls_left};
+    ghost use Rattle.disk_memory.specs.PastLaws.{leaves_itself, had_been_now, only_last};
+
+    ghost honest = { λ f. is_told (disk_of f) };
+
+    ghost extent = { λ f. extent_of (disk_of f) };
+
+    ghost seen = { λ f. bytes_of (disk_of f) };
+
+    ghost may_leave = { λ f. MayLeave (disk_of f) };
+
+    ghost moment = { λ f. moment_of (disk_of f) };
+
+    ghost left_since = { λ f. LeftSince (disk_of f) };
+
+    ghost read_count = { λ f. failed_reads (disk_of f) };
+
+    ghost write_count = { λ f. failed_writes (disk_of f) };
+
+    ghost whole = { λ f h. refl };
+
+    ghost seen_now = { λ f h. leaves_itself (disk_of f).history };
+
+    ghost counts_now = { λ f t c h le now. had_been_now (disk_of f).history t c le now };
+
+    ghost only_now = { λ f c h left. only_last (disk_of f).history c left };
+
+    fn size(&self) -> u64 {
+        self.disk.size()
+    }
+
+    fn read<L: Ledger>(
+        &mut self,
+        page: u64,
+        out: &mut [u8; 4096],
+        steps: &mut Steps<L>,
+    ) -> Result<(), DiskFailed>
+        requires { page * 4096 + 4096 ≤ extent_of (disk_of self.old) }
+        ensures ticks { steps.new ≡ steps.old + 1 }
+        ensures bytes { OnOk result (out.new ≡ page_of page (bytes_of (disk_of self.old))) }
+        ensures seen { bytes_of (disk_of self.new) ≡ bytes_of (disk_of self.old) }
+        ensures crash { (c : List ℕ) → MayLeave (disk_of self.new) c ↔ MayLeave (disk_of self.old) c }
+        ensures time { TimeGoesOn (disk_of self.old) (disk_of self.new) }
+        ensures extent { extent_of (disk_of self.new) ≡ extent_of (disk_of self.old) }
+        ensures cause { HasCause (failed_reads (disk_of self.old)) (failed_reads (disk_of self.new)) result }
+        ensures other { failed_writes (disk_of self.old) ≤ failed_writes (disk_of self.new) }
+
+        // A read fails where the fuse has stopped the disk or where it was chosen. One that is not made changes nothing.
+        ensures fails { IsErr result ↔ ((calls_left self.old ≡ 0) ⊎ Contains (chosen_of (disk_of self.old)) 1) }
+        ensures counted { failed_reads (disk_of self.new) ≡ counted result (failed_reads (disk_of self.old)) }
+        ensures stopped { calls_left self.old ≡ 0 → TellsSame (disk_of self.new) (disk_of self.old) }
+        ensures left { calls_left self.new ≡ calls_left self.old - 1 }
+        ensures dirty { dirty_of (disk_of self.new) ≡ dirty_of (disk_of self.old) }
+    {
+        if !is_made(&mut self.left) {
+            steps.tick();
+            return Err(self.disk.refuse_read());
+        }
+        self.disk.read(page, out, steps)
+    }
+
+    fn write(&mut self, at: u64, bytes: &[u8]) -> Result<(), DiskFailed>
+        requires { InOnePage at (length bytes.now) (extent_of (disk_of self.old)) }
+        ensures written { OnOk result (Holds (bytes_of (disk_of self.old)) at bytes.now (bytes_of (disk_of self.new))) }
+        ensures outside { Agrees at (length bytes.now) (bytes_of (disk_of self.old)) (bytes_of (disk_of self.new)) }
+        ensures crash { Follows (Agrees at (length bytes.now)) (MayLeave (disk_of self.old)) (MayLeave (disk_of self.new)) }
+        ensures time { TimeGoesOn (disk_of self.old) (disk_of self.new) }
+        ensures extent { extent_of (disk_of self.new) ≡ extent_of (disk_of self.old) }
+        ensures cause { HasCause (failed_writes (disk_of self.old)) (failed_writes (disk_of self.new)) result }
+        ensures other { failed_reads (disk_of self.old) ≤ failed_reads (disk_of self.new) }
+
+        // A write fails where the fuse has stopped the disk, where it was chosen, or for want of memory. One that is not
+        // made changes nothing.
+        ensures fails { (calls_left self.old ≡ 0) ⊎ Contains (chosen_of (disk_of self.old)) 1 → IsErr result }
+        ensures unwritten { OnErr result (bytes_of (disk_of self.new) ≡ bytes_of (disk_of self.old)) }
+        ensures counted { failed_writes (disk_of self.new) ≡ counted result (failed_writes (disk_of self.old)) }
+        ensures stopped { calls_left self.old ≡ 0 → TellsSame (disk_of self.new) (disk_of self.old) }
+        ensures left { calls_left self.new ≡ calls_left self.old - 1 }
+        ensures dirty { OnOk result (dirty_of (disk_of self.new) ≡ (at, length bytes.now) ∷ dirty_of (disk_of self.old)) }
+    {
+        if !is_made(&mut self.left) {
+            return Err(self.disk.refuse_write());
+        }
+        self.disk.write(at, bytes)
+    }
+
+    fn sync(&mut self) -> Result<(), DiskFailed>
+        ensures durable { OnOk result (Only (bytes_of (disk_of self.old)) (MayLeave (disk_of self.new))) }
+        ensures seen { bytes_of (disk_of self.new) ≡ bytes_of (disk_of self.old) }
+        ensures crash { (c : List ℕ) → MayLeave (disk_of self.new) c → MayLeave (disk_of self.old) c }
+        ensures stays { OnErr result ((c : List ℕ) → MayLeave (disk_of self.old) c → MayLeave (disk_of self.new) c) }
+        ensures time { TimeGoesOn (disk_of self.old) (disk_of self.new) }
+        ensures extent { extent_of (disk_of self.new) ≡ extent_of (disk_of self.old) }
+        ensures cause { HasCause (failed_writes (disk_of self.old)) (failed_writes (disk_of self.new)) result }
+        ensures other { failed_reads (disk_of self.old) ≤ failed_reads (disk_of self.new) }
+
+        // A sync fails where the fuse has stopped the disk or where it was chosen. One that is not made changes nothing.
+        ensures fails { IsErr result ↔ ((calls_left self.old ≡ 0) ⊎ Contains (chosen_of (disk_of self.old)) 1) }
+        ensures counted { failed_writes (disk_of self.new) ≡ counted result (failed_writes (disk_of self.old)) }
+        ensures stopped { calls_left self.old ≡ 0 → TellsSame (disk_of self.new) (disk_of self.old) }
+        ensures left { calls_left self.new ≡ calls_left self.old - 1 }
+        ensures clean { OnOk result (dirty_of (disk_of self.new) ≡ []) }
+    {
+        if !is_made(&mut self.left) {
+            return Err(self.disk.refuse_write());
+        }
+        self.disk.sync()
+    }
+
+    fn read_faults(&self) -> u64 {
+        self.disk.read_faults()
+    }
+
+    fn write_faults(&self) -> u64 {
+        self.disk.write_faults()
+    }
+}
