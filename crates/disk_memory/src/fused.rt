@@ -61,9 +61,9 @@ fn is_made(left: &mut u64) -> bool
 
 impl Disk for Fused {
     ghost use Rattle.std.specs.Prelude.{length, refl};
-    ghost use Rattle.disk_memory.specs.Plans.{counted};
-    ghost use Rattle.disk_memory.specs.Memories.{TimeGoesOn, dirty_of, chosen_of, is_told, bytes_of, extent_of, MayLeave, moment_of, LeftSince, failed_reads, failed_writes, TellsSame};
-    ghost use Rattle.disk_memory.specs.Fuses.{disk_of, calls_left};
+    ghost use Rattle.disk_memory.specs.Plans.{after_a_call, counted};
+    ghost use Rattle.disk_memory.specs.Memories.{TimeGoesOn, dirty_of, chosen_of, is_told, bytes_of, extent_of, MayLeave, moment_of, LeftSince, failed_reads, failed_writes};
+    ghost use Rattle.disk_memory.specs.Fuses.{disk_of, calls_left, IsAs};
     ghost use Rattle.disk_memory.specs.PastLaws.{leaves_itself, had_been_now, only_last};
 
     ghost honest = { λ f. is_told (disk_of f) };
@@ -113,8 +113,10 @@ impl Disk for Fused {
         // A read fails where the fuse has stopped the disk or where it was chosen. One that is not made changes nothing.
         ensures fails { IsErr result ↔ ((calls_left self.old ≡ 0) ⊎ Contains (chosen_of (disk_of self.old)) 1) }
         ensures counted { failed_reads (disk_of self.new) ≡ counted result (failed_reads (disk_of self.old)) }
-        ensures stopped { calls_left self.old ≡ 0 → TellsSame (disk_of self.new) (disk_of self.old) }
+        ensures writes { failed_writes (disk_of self.new) ≡ failed_writes (disk_of self.old) }
+        ensures stopped { calls_left self.old ≡ 0 → IsAs (disk_of self.new) (disk_of self.old) }
         ensures left { calls_left self.new ≡ calls_left self.old - 1 }
+        ensures nearer { calls_left self.old ≢ 0 → chosen_of (disk_of self.new) ≡ after_a_call (chosen_of (disk_of self.old)) }
         ensures dirty { dirty_of (disk_of self.new) ≡ dirty_of (disk_of self.old) }
     {
         if !is_made(&mut self.left) {
@@ -139,9 +141,12 @@ impl Disk for Fused {
         ensures fails { (calls_left self.old ≡ 0) ⊎ Contains (chosen_of (disk_of self.old)) 1 → IsErr result }
         ensures unwritten { OnErr result (bytes_of (disk_of self.new) ≡ bytes_of (disk_of self.old)) }
         ensures counted { failed_writes (disk_of self.new) ≡ counted result (failed_writes (disk_of self.old)) }
-        ensures stopped { calls_left self.old ≡ 0 → TellsSame (disk_of self.new) (disk_of self.old) }
+        ensures reads { failed_reads (disk_of self.new) ≡ failed_reads (disk_of self.old) }
+        ensures stopped { calls_left self.old ≡ 0 → IsAs (disk_of self.new) (disk_of self.old) }
         ensures left { calls_left self.new ≡ calls_left self.old - 1 }
+        ensures nearer { calls_left self.old ≢ 0 → chosen_of (disk_of self.new) ≡ after_a_call (chosen_of (disk_of self.old)) }
         ensures dirty { OnOk result (dirty_of (disk_of self.new) ≡ (at, length bytes.now) ∷ dirty_of (disk_of self.old)) }
+        ensures failed_dirty { OnErr result ((dirty_of (disk_of self.new) ≡ dirty_of (disk_of self.old)) ⊎ (dirty_of (disk_of self.new) ≡ (at, length bytes.now) ∷ dirty_of (disk_of self.old))) }
     {
         if !is_made(&mut self.left) {
             return Err(self.disk.refuse_write());
@@ -162,9 +167,12 @@ impl Disk for Fused {
         // A sync fails where the fuse has stopped the disk or where it was chosen. One that is not made changes nothing.
         ensures fails { IsErr result ↔ ((calls_left self.old ≡ 0) ⊎ Contains (chosen_of (disk_of self.old)) 1) }
         ensures counted { failed_writes (disk_of self.new) ≡ counted result (failed_writes (disk_of self.old)) }
-        ensures stopped { calls_left self.old ≡ 0 → TellsSame (disk_of self.new) (disk_of self.old) }
+        ensures reads { failed_reads (disk_of self.new) ≡ failed_reads (disk_of self.old) }
+        ensures stopped { calls_left self.old ≡ 0 → IsAs (disk_of self.new) (disk_of self.old) }
         ensures left { calls_left self.new ≡ calls_left self.old - 1 }
+        ensures nearer { calls_left self.old ≢ 0 → chosen_of (disk_of self.new) ≡ after_a_call (chosen_of (disk_of self.old)) }
         ensures clean { OnOk result (dirty_of (disk_of self.new) ≡ []) }
+        ensures failed_dirty { OnErr result (dirty_of (disk_of self.new) ≡ dirty_of (disk_of self.old)) }
     {
         if !is_made(&mut self.left) {
             return Err(self.disk.refuse_write());

@@ -18,3 +18,6 @@ pub use fused::{Fused, Keep};
 pub use memory::Memory;
 pub use sink::ByteSink;
 pub use source::ByteSource;
+
+#[cfg(test)]
+mod tests;
