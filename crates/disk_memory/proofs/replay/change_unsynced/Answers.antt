@@ -3,7 +3,7 @@ use Rattle.disk_trait.specs.Moments.{AgreesOutside}
 use Rattle.disk_memory.specs.Events.{change_of}
 use Rattle.disk_memory.specs.Past.{Written, Failed, Synced}
 use Rattle.disk_memory.specs.OnDisk.{IsInside}
-use Rattle.disk_memory.proofs.Walks.{IsChanging, changing_event, changing_done, dirty_after, dirty_next, dirty_all}
+use Rattle.disk_memory.proofs.Changing.{IsChanging, changing_event, changing_done, dirty_after, dirty_next, dirty_all}
 use Rattle.disk_memory.proofs.replay.change_unsynced.Goals.{in-Write, in-FailedWrite}
 use Rattle.disk_memory.proofs.replay.change_unsynced.Goals as goal
 

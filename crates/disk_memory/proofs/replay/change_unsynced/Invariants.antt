@@ -1,5 +1,5 @@
 use Rattle.std.proofs.Common.{◌≡◌, ◌-◌, ℕ, List, length}
-use Rattle.disk_memory.proofs.Walks.{IsChanging, dirty_after}
+use Rattle.disk_memory.proofs.Changing.{IsChanging, dirty_after}
 use Rattle.disk_memory.proofs.replay.change_unsynced.Given as goal
 
 abbrev pub invariant-loop-back : goal.invariant-loop-back

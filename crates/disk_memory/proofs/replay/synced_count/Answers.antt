@@ -1,7 +1,7 @@
 use Rattle.std.proofs.Common.{◌≡◌, ◌∙◌, ◌+◌, ◌-◌, ◌<◌, sym, ap, get_or, length, arith}
 use Rattle.disk_memory.specs.Events.{change_of}
 use Rattle.disk_memory.specs.OnDisk.{is_sync}
-use Rattle.disk_memory.proofs.Walks.{sync_found, sync_before, not_sync}
+use Rattle.disk_memory.proofs.Syncs.{sync_found, sync_before, not_sync}
 use Rattle.disk_memory.proofs.replay.synced_count.Goals as goal
 
 pub returns-in-Sync-clause-synced : goal.returns-in-Sync-clause-synced

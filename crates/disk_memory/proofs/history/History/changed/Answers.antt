@@ -8,7 +8,8 @@ use Rattle.disk_memory.specs.Events.{change_of}
 use Rattle.disk_memory.specs.Past.{held, held_after}
 use Rattle.disk_memory.specs.OnDisk.{LiesInside, on_disk}
 use Rattle.disk_memory.specs.Histories.{past_of}
-use Rattle.disk_memory.proofs.Walks.{held_long, on_disk_long}
+use Rattle.disk_memory.proofs.Walks.{held_long}
+use Rattle.disk_memory.proofs.Syncs.{on_disk_long}
 use Rattle.disk_memory.proofs.history.History.changed.Goals as goal
 
 -- the image begins as what reads give, and has the disk's size

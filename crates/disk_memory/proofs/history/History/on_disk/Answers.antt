@@ -5,7 +5,7 @@ use Rattle.disk_memory.specs.Events.{change_of}
 use Rattle.disk_memory.specs.Past.{held, held_after, Leaves}
 use Rattle.disk_memory.specs.OnDisk.{LiesInside, up_to_sync, on_disk}
 use Rattle.disk_memory.specs.Histories.{past_of}
-use Rattle.disk_memory.proofs.Walks.{on_disk_left}
+use Rattle.disk_memory.proofs.Syncs.{on_disk_left}
 use Rattle.disk_memory.proofs.history.History.on_disk.Goals as goal
 
 pub returns-clause-bytes : goal.returns-clause-bytes
