@@ -1,5 +1,5 @@
 -- An image in which each byte that is not on the disk becomes another one, range by range.
-use Rattle.std.proofs.Common.{◌≡◌, ◌≢◌, ◌<◌, ◌≤◌, ◌+◌, ◌⊎◌, inl, inr, ℕ, List, [], ◌∷◌, length, map, take, get_or, slice_index, refl, sym, ap, subst, ◌∙◌, arith}
+use Rattle.std.proofs.Common.{◌≡◌, ◌≢◌, ◌<◌, ◌≤◌, ◌+◌, ◌⊎◌, inl, inr, ℕ, List, [], ◌∷◌, length, map, take, get_or, slice_index, sym, ap, subst, ◌∙◌, arith}
 use Rattle.std.proofs.lemmas.List.{take_all}
 use Rattle.disk_trait.specs.Moments.{IsOutside, AgreesOutside}
 use Rattle.disk_memory.specs.declared.history.Event.{Event}
@@ -17,9 +17,6 @@ pub record IsChanging (all left : List (ℕ × ℕ)) (bytes synced first image :
   pub outside : AgreesOutside all first image
   pub still : (i : ℕ) → IsOutside all i → IsOutside left i
   pub inside : (i : ℕ) → IsInside all i → IsInside left i ⊎ IsOther bytes synced image i
-
-pub changing_first : (all : List (ℕ × ℕ)) (bytes synced image : List ℕ) → IsChanging all all bytes synced image image
-changing_first all bytes synced image = record { outside = record { same_length = refl; each = λ i o. refl }; still = λ i o. o; inside = λ i h. inl h }
 
 by_range : (i at n : ℕ) → (i < at) ⊎ ((at ≤ i) × (i < at + n)) ⊎ (at + n ≤ i)
 by_range i at n = grind arith

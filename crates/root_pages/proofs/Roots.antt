@@ -1,9 +1,9 @@
--- What makes the fields of a root lawful, part by part, and that lawful ones are in range.
+-- Lawful fields of a root: they are in range, and a header page spells them once.
 use Rattle.std.proofs.Common.{◌≡◌, ◌<◌, ◌≤◌, ◌*◌, ◌⊎◌, inl, inr, ◌∙◌, ℕ, List, length, drop, sym, arith}
 use Rattle.std.specs.Prelude.{IsTrue, All}
 use Rattle.std.proofs.lemmas.List.{get_or_past}
 use Rattle.std.proofs.lemmas.Nat.{mul-le}
-use Rattle.std.proofs.lemmas.List.Elements.{All-get_or, All-from_get_or}
+use Rattle.std.proofs.lemmas.List.Elements.{All-get_or}
 use Rattle.grid_types.specs.declared.shape.Shape.{Shape}
 use Rattle.grid_types.specs.Shapes.{is_shape}
 use Rattle.grid_types.proofs.Places.{within-limits}
@@ -11,7 +11,7 @@ use Rattle.grid_model.specs.Spellings.{RootFields}
 use Rattle.grid_model.specs.Lawful.{IsRootOn}
 use Rattle.root_pages.specs.Headers.{AreInRange, SpellsRoot}
 use Rattle.root_pages.specs.Reading.{FieldsAt}
-use Rattle.root_pages.specs.Lawful.{AreAtMost, HasNumbers, HasCounts}
+use Rattle.root_pages.specs.Lawful.{AreAtMost}
 use Rattle.root_pages.proofs.RootPlaces.{fields_there, one_root, on_header}
 
 pub few_attributes : (s : Shape) (K : ℕ) → IsTrue (is_shape s) → s.k ≡ K → K ≤ 4
@@ -20,10 +20,7 @@ few_attributes s K lawful e = omega (arith, e, (within-limits s lawful).few_attr
 pub at_most_thousand : (s : Shape) (ns : List ℕ) → IsTrue (is_shape s) → AreAtMost s.boundaries ns → AreAtMost 1000 ns
 at_most_thousand s ns lawful few a = omega (arith, few a, (within-limits s lawful).few_boundaries)
 
--- each of these numbers is at most a limit, said of the elements
-pub all_at_most : (limit : ℕ) (ns : List ℕ) → AreAtMost limit ns → All (λ n. n ≤ limit) ns
-all_at_most limit ns few = All-from_get_or (λ n. n ≤ limit) ns 0 (λ i lt. few i)
-
+-- each of these numbers is at most a limit, said of the places
 pub each_at_most : (limit : ℕ) (ns : List ℕ) → All (λ n. n ≤ limit) ns → AreAtMost limit ns
 each_at_most limit ns all i =
     let by : (i < length ns) ⊎ (length ns ≤ i) = grind arith in
@@ -31,28 +28,6 @@ each_at_most limit ns all i =
       | inl lt ↦ All-get_or (λ n. n ≤ limit) ns i 0 lt all
       | inr le ↦ omega (arith, get_or_past ns i 0 le)
     ]
-
--- the parts of what makes root fields lawful
-pub lawful_by_parts : (s : Shape) (header : ℕ) (r : RootFields) → length r.boundaries ≡ s.k → HasNumbers header r → AreAtMost s.boundaries r.boundaries → HasCounts s r → IsRootOn s header r
-lawful_by_parts s header r long n few c = record {
-  parity = n.parity;
-  number = n.number;
-  session = n.session;
-  front = n.front;
-  attributes = long;
-  few_boundaries = all_at_most s.boundaries r.boundaries few;
-  few_cells = c.few_cells;
-  parts = c.parts;
-  some_buckets = c.some_buckets;
-  few_buckets = c.few_buckets;
-  records = c.records;
-}
-
-pub numbers_of_lawful : (s : Shape) (header : ℕ) (r : RootFields) → IsRootOn s header r → HasNumbers header r
-numbers_of_lawful s header r l = record { parity = l.parity; number = l.number; session = l.session; front = l.front }
-
-pub counts_of_lawful : (s : Shape) (header : ℕ) (r : RootFields) → IsRootOn s header r → HasCounts s r
-counts_of_lawful s header r l = record { few_cells = l.few_cells; parts = l.parts; some_buckets = l.some_buckets; few_buckets = l.few_buckets; records = l.records }
 
 -- lawful root fields are in range
 pub in_range : (s : Shape) (header K : ℕ) (r : RootFields) → IsTrue (is_shape s) → s.k ≡ K → IsRootOn s header r → AreInRange K r
