@@ -9,8 +9,8 @@ use Rattle.disk_memory.specs.OnDisk.{LiesInside}
 abbrev pub past_of : Inside → Past
 past_of h = record { first = h.first.items; changes = map change_of h.events.items }
 
--- what is not on the disk leaves room for one event more, and each write lies inside the disk
-pub record IsKept (h : Inside) : Type 0 where
+-- a history is one of a disk: each write lies inside it, and where not all is on it there is room for one event more
+pub record IsHistory (h : Inside) : Type 0 where
   pub inside : All (λ e. LiesInside (length h.first.items) (change_of e)) h.events.items
   pub clean : h.is_clean ≡ true → (held (past_of h)).dirty ≡ []
   pub room : h.is_clean ≡ false → vec_len h.events < vec_capacity h.events

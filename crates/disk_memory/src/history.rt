@@ -32,11 +32,11 @@ impl Model for History {
 
     ghost Value = { Past };
 
-    ghost use Rattle.disk_memory.specs.Histories.{past_of, IsKept};
+    ghost use Rattle.disk_memory.specs.Histories.{past_of, IsHistory};
 
     ghost view = { past_of };
 
-    ghost invariant = { IsKept };
+    ghost invariant = { IsHistory };
 }
 
 impl History {
