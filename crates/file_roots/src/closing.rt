@@ -1,0 +1,68 @@
+//! A header page is closed before another root is written on it.
+ghost use Rattle.std.specs.Prelude.{◌≡◌, ◌≢◌, ◌⊎◌, ◌≤◌, ◌+◌, ◌*◌, ◌%◌, List, ℕ, IsTrue, OnOk, IfErr, IsErrOf, slice_index};
+ghost use Rattle.grid_types.specs.declared.refusal.Refusal.TheVariants.{ReadFault, WriteFault};
+ghost use Rattle.grid_types.specs.Shapes.{is_shape, file_pages, header_page, header_gate_at};
+ghost use Rattle.grid_model.specs.Images.{header_gate};
+ghost use Rattle.disk_trait.specs.Causes.{HasCause, Rose};
+ghost use Rattle.disk_trait.specs.Disk.{Only, Agrees};
+ghost use Rattle.disk_trait.specs.Moments.{After, LeavesOnly};
+
+use disk_trait::{Disk, DiskFailed, Steps, write_through};
+use grid_types::{Layout, Refusal};
+use std::sync::ledger::Ledger;
+
+/// Writes 0 on a gate that reads as open, and syncs. A gate that reads as closed is not written, since a crash during the
+/// write could leave it open.
+fn shut<D: Disk>(disk: &mut D, at: u64, gate: u8) -> Result<(), DiskFailed>
+    requires size { at + 1 ≤ D.extent disk.old }
+    ensures closed { IsTrue (D.honest disk.old) → gate ≡ slice_index (D.seen disk.old) at → OnOk result (slice_index (D.seen disk.new) at ≢ 1) }
+    ensures durable { IsTrue (D.honest disk.old) → OnOk result (Only (D.seen disk.new) (D.may_leave disk.new)) }
+    ensures outside { IsTrue (D.honest disk.old) → Agrees at 1 (D.seen disk.old) (D.seen disk.new) }
+    ensures moments { IsTrue (D.honest disk.old) → LeavesOnly D.moment D.left_since disk.old disk.new (After (Agrees at 1) (D.may_leave disk.old)) }
+    ensures unwritten { IsTrue (D.honest disk.old) → gate ≢ 1 → LeavesOnly D.moment D.left_since disk.old disk.new (D.may_leave disk.old) }
+    ensures unchanged { IsTrue (D.honest disk.old) → gate ≢ 1 → D.seen disk.new ≡ D.seen disk.old }
+    ensures extent { D.extent disk.new ≡ D.extent disk.old }
+    ensures honest { D.honest disk.new ≡ D.honest disk.old }
+    ensures cause { HasCause (D.write_count disk.old) (D.write_count disk.new) result }
+    ensures other { D.read_count disk.old ≤ D.read_count disk.new }
+{
+    if gate == 1 {
+        return write_through(disk, at, &[0]);
+    }
+    disk.sync()
+}
+
+/// Closes the gate on the header page of a root with this number, and syncs.
+pub fn close_root<D: Disk, L: Ledger>(
+    disk: &mut D,
+    layout: &Layout,
+    number: u64,
+    steps: &mut Steps<L>,
+) -> Result<(), Refusal>
+    requires lawful { IsTrue (is_shape layout.now.shape) }
+    requires size { file_pages layout.now.shape * 4096 ≤ D.extent disk.old }
+    ensures closed { IsTrue (D.honest disk.old) → OnOk result (header_gate (D.seen disk.new) (header_page number) ≢ 1) }
+    ensures durable { IsTrue (D.honest disk.old) → OnOk result (Only (D.seen disk.new) (D.may_leave disk.new)) }
+    ensures outside { IsTrue (D.honest disk.old) → Agrees (header_gate_at (header_page number)) 1 (D.seen disk.old) (D.seen disk.new) }
+    ensures moments { IsTrue (D.honest disk.old) → LeavesOnly D.moment D.left_since disk.old disk.new (After (Agrees (header_gate_at (header_page number)) 1) (D.may_leave disk.old)) }
+    ensures unwritten { IsTrue (D.honest disk.old) → header_gate (D.seen disk.old) (header_page number) ≢ 1 → LeavesOnly D.moment D.left_since disk.old disk.new (D.may_leave disk.old) }
+    ensures unchanged { IsTrue (D.honest disk.old) → header_gate (D.seen disk.old) (header_page number) ≢ 1 → D.seen disk.new ≡ D.seen disk.old }
+    ensures extent { D.extent disk.new ≡ D.extent disk.old }
+    ensures honest { D.honest disk.new ≡ D.honest disk.old }
+    ensures read_fault { IsErrOf result ReadFault → Rose (D.read_count disk.old) (D.read_count disk.new) }
+    ensures write_fault { IsErrOf result WriteFault → Rose (D.write_count disk.old) (D.write_count disk.new) }
+    ensures no_other { IfErr result (λ e. (e ≡ ReadFault) ⊎ (e ≡ WriteFault)) }
+    ensures counts { (D.read_count disk.old ≤ D.read_count disk.new) × (D.write_count disk.old ≤ D.write_count disk.new) }
+    ensures ticks { steps.new ≡ steps.old + 1 }
+{
+    let header = number % 2;
+    let mut page = [0; 4096];
+    match disk.read(header, &mut page, steps) {
+        Ok(()) => {}
+        Err(DiskFailed) => return Err(Refusal::ReadFault),
+    }
+    match shut(disk, header * 4096 + 64, page[64]) {
+        Ok(()) => Ok(()),
+        Err(DiskFailed) => Err(Refusal::WriteFault),
+    }
+}

@@ -1,0 +1,9 @@
+//! The roots of a file: a header page says which root is the newest, and a table area has its scales, and where its
+//! directory and its buckets stand.
+#![tactic(auto)]
+
+mod closing;
+mod root;
+
+pub use closing::close_root;
+pub use root::Root;
