@@ -1,1 +1,6 @@
 pub mod Headers
+pub mod Stages
+pub mod Counting
+pub mod Slices
+pub mod Areas
+pub mod Writing

@@ -2,6 +2,7 @@
 use Rattle.std.specs.Prelude.{◌≡◌, ◌≢◌, ◌⊎◌, ◌<◌, ◌+◌, ◌*◌, ℕ, List, [], ◌∷◌}
 use Rattle.grid_types.specs.declared.shape.Shape.{Shape}
 use Rattle.grid_types.specs.Shapes.{area_pages, header_page, table_page, header_gate_at, root_fields_at}
+use Rattle.disk_trait.specs.Disk.{Agrees}
 use Rattle.grid_model.specs.Spellings.{RootFields}
 use Rattle.grid_model.specs.Lawful.{Area}
 use Rattle.grid_model.specs.Images.{header_gate, IsOpenOver, IsNewest, HasArea}
@@ -46,3 +47,7 @@ area_range s area = (table_page s area 0 * 4096, area_pages s * 4096)
 -- the bytes that a root writes in all
 abbrev pub root_ranges : Shape → ℕ → List (ℕ × ℕ)
 root_ranges s header = area_range s header ∷ header_ranges header
+
+-- two images differ at most in a range, given as its start and its length
+abbrev pub Within : ℕ × ℕ → List ℕ → List ℕ → Type 0
+Within range old new = Agrees range.0 range.1 old new

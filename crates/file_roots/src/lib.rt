@@ -3,7 +3,13 @@
 #![tactic(auto)]
 
 mod closing;
+mod finishing;
+mod parts;
+mod replacing;
 mod root;
 
 pub use closing::close_root;
-pub use root::Root;
+pub use finishing::finish_root;
+pub use parts::write_part;
+pub use replacing::replace_root;
+pub use root::{NOWHERE, Root};

@@ -1,0 +1,31 @@
+use Rattle.std.proofs.Common.{◌≡◌, ◌≤◌, ◌*◌, ◌∙◌, ℕ, List, length, rules, sym, ap, subst, arith}
+use Rattle.std.proofs.lemmas.Result.{on_ok_weaker}
+use Rattle.grid_types.specs.Pages.{page_of}
+use Rattle.grid_types.specs.Shapes.{header_page, table_page}
+use Rattle.disk_trait.specs.Disk.{Agrees, Follows}
+use Rattle.disk_trait.proofs.Moments.{stepped}
+use Rattle.disk_trait.proofs.Pages.{agrees_same, page_written}
+use Rattle.file_roots.proofs.Writing.{lengths}
+use Rattle.file_roots.proofs.parts.write_part.Goals as goal
+
+pub encode_part-requires : goal.encode_part-requires
+encode_part-requires g c =
+    let l = lengths c.args.layout.now.shape c.args.root.now c.requires.lawful c.requires.attributes c.requires.root in
+    (search rules, (l.scales, (l.boundaries, l.parts)))
+
+pub returns-clause-written : goal.returns-clause-written
+returns-clause-written g c = λ h.
+    let seen = g.D.Disk.seen c.args.disk.now in
+    let end = g.D.Disk.seen c.write.new.self in
+    let page : c.from-at.result ≡ table_page c.args.layout.now.shape (header_page c.args.root.now.number) c.args.i = c.from-at.ensures ∙ c.table_page.ensures.value in
+    let low : c.from-at.result * 4096 ≤ length seen = omega (arith, c.from-at.ensures, c.table_page.ensures.inside, c.requires.size, g.met.D.Disk.whole c.args.disk.now h) in
+    on_ok_weaker _ (λ w. ap (λ (p : ℕ). page_of p end) (sym page) ∙ page_written seen c.from-at.result _ end low c.encode_part.array_long w ∙ c.encode_part.ensures) (c.write.ensures.written h)
+
+pub returns-clause-moments : goal.returns-clause-moments
+returns-clause-moments g c = λ h.
+    let before = g.D.Disk.may_leave c.args.disk.now in
+    let now = g.D.Disk.may_leave c.write.new.self in
+    let at = table_page c.args.layout.now.shape (header_page c.args.root.now.number) c.args.i * 4096 in
+    let is : c.from-at.result * 4096 ≡ at = ap (λ (n : ℕ). n * 4096) (c.from-at.ensures ∙ c.table_page.ensures.value) in
+    let follows : Follows (Agrees at 4096) before now = subst (λ n. Follows (Agrees at n) before now) c.encode_part.array_long (subst (λ p. Follows (Agrees p (length c.encode_part.new.page)) before now) is (c.write.ensures.crash h)) in
+    stepped g.D.Disk.moment g.D.Disk.left_since (Agrees at 4096) c.args.disk.now c.write.new.self before now (λ i. agrees_same _ _ i) (λ i left. g.met.D.Disk.only_now c.args.disk.now i h left) (c.write.ensures.time h) follows
