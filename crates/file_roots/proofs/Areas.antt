@@ -1,13 +1,13 @@
 -- The table area of a root, page by page.
-use Rattle.std.proofs.Common.{◌≡◌, ◌≢◌, ◌<◌, ◌≤◌, ◌⊎◌, inl, inr, ◌+◌, ◌*◌, ℕ, List, IsTrue, refl, sym, ap, subst, ◌∙◌, arith}
+use Rattle.std.proofs.Common.{◌≡◌, ◌<◌, ◌≤◌, ◌⊎◌, inl, inr, ◌+◌, ◌*◌, ℕ, List, subst, ◌∙◌, arith}
 use Rattle.std.proofs.lemmas.Bool.{cases_lt}
 use Rattle.grid_types.specs.declared.shape.Shape.{Shape}
 use Rattle.grid_types.specs.Pages.{page_of}
-use Rattle.grid_types.specs.Shapes.{is_shape, area_pages, table_page}
+use Rattle.grid_types.specs.Shapes.{area_pages, table_page}
 use Rattle.grid_types.proofs.Places.{table-page, one-of-two}
 use Rattle.disk_trait.specs.Disk.{Agrees, Follows}
 use Rattle.disk_trait.specs.Moments.{After}
-use Rattle.disk_trait.proofs.Pages.{agrees_same, agrees_then, agrees_wider, page_apart}
+use Rattle.disk_trait.proofs.Pages.{agrees_then, agrees_wider, page_apart}
 use Rattle.file_roots.specs.Replacing.{Within, area_range}
 
 -- the pages of a table area stand one behind the other

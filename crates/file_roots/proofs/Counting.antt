@@ -1,5 +1,5 @@
 -- How many bucket numbers the front of a table has.
-use Rattle.std.proofs.Common.{◌≡◌, ◌≢◌, ◌<◌, ◌+◌, ℕ, List, [], map, length, slice_index, take, get_or, not, eqb, cond, true, false, refl, sym, ap, ◌∙◌, arith, rules, tests}
+use Rattle.std.proofs.Common.{◌≡◌, ◌≢◌, ◌<◌, ◌+◌, ℕ, List, [], map, length, slice_index, take, get_or, not, eqb, sym, ◌∙◌, arith}
 use Rattle.std.proofs.lemmas.List.Filters.{length-filter_more}
 use Rattle.std.proofs.lemmas.List.{get_or-map, ext_get_or, length-map}
 use Rattle.grid_model.specs.Scales.{scale_of}

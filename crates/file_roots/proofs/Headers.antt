@@ -1,12 +1,11 @@
 -- What stays of header pages and table areas where a range of an image changes.
-use Rattle.std.proofs.Common.{◌≡◌, ◌≢◌, ◌<◌, ◌≤◌, ◌⊎◌, inl, inr, ◌+◌, ◌*◌, ◌%◌, ℕ, List, length, take, drop, slice_index, IsTrue, refl, sym, ap, subst, ◌∙◌, arith}
+use Rattle.std.proofs.Common.{◌≡◌, ◌≢◌, ◌<◌, ◌≤◌, ◌⊎◌, inl, inr, ◌+◌, ◌*◌, ℕ, List, take, drop, slice_index, IsTrue, sym, ap, ◌∙◌, arith}
 use Rattle.grid_types.specs.declared.shape.Shape.{Shape}
-use Rattle.grid_types.specs.Pages.{page_of}
 use Rattle.grid_types.specs.Shapes.{is_shape, area_pages, file_pages, header_page, table_page, header_gate_at, root_fields_at}
 use Rattle.grid_types.proofs.Places.{table-page, table-page-lies, one-of-two}
-use Rattle.grid_model.specs.Spellings.{RootFields, root_bytes}
-use Rattle.grid_model.specs.Lawful.{IsRootOn, Area, IsAreaOf}
-use Rattle.grid_model.specs.Images.{header_gate, root_fields, IsOpenOver, IsNewest, HasArea, area_page}
+use Rattle.grid_model.specs.Spellings.{RootFields}
+use Rattle.grid_model.specs.Lawful.{Area}
+use Rattle.grid_model.specs.Images.{header_gate, root_fields, IsOpenOver, HasArea}
 use Rattle.disk_trait.specs.Disk.{Agrees}
 use Rattle.disk_trait.proofs.Pages.{page_apart, part_apart, byte_apart, byte_of_page, part_of_page}
 
@@ -63,13 +62,13 @@ areas_apart s area other i two too apart lt =
     let z = table-page s 0 in
     elim (one-of-two area two) [
       | inl e ↦ elim (one-of-two other too) [
-          | inl f ↦ absurd (apart (e ∙ sym f))
-          | inr f ↦ rw (e, f) (inr (omega (arith, z.0, t.1)))
-        ]
+        | inl f ↦ absurd (apart (e ∙ sym f))
+        | inr f ↦ rw (e, f) (inr (omega (arith, z.0, t.1)))
+      ]
       | inr e ↦ elim (one-of-two other too) [
-          | inl f ↦ rw (e, f) (inl (omega (arith, z.1, t.0, lt)))
-          | inr f ↦ absurd (apart (e ∙ sym f))
-        ]
+        | inl f ↦ rw (e, f) (inl (omega (arith, z.1, t.0, lt)))
+        | inr f ↦ absurd (apart (e ∙ sym f))
+      ]
     ]
 
 -- a table area stays where only the other one changes

@@ -1,17 +1,17 @@
 -- What an image shows of its roots while the fields and the gate of one of them are written.
-use Rattle.std.proofs.Common.{◌≡◌, ◌≢◌, ◌<◌, ◌≤◌, ◌⊎◌, inl, inr, ◌+◌, ◌*◌, ◌%◌, ℕ, List, [], ◌∷◌, length, take, drop, slice_index, IsTrue, refl, sym, ap, subst, ◌∙◌, arith}
+use Rattle.std.proofs.Common.{◌≡◌, ◌≢◌, ◌≤◌, ◌⊎◌, inl, inr, ◌+◌, ◌*◌, ℕ, List, [], ◌∷◌, length, slice_index, IsTrue, sym, ap, subst, ◌∙◌, arith}
 use Rattle.std.proofs.lemmas.Bool.{cases_eq}
 use Rattle.grid_types.specs.declared.shape.Shape.{Shape}
 use Rattle.grid_types.specs.Shapes.{is_shape, header_page, header_gate_at, root_fields_at}
 use Rattle.grid_model.specs.Spellings.{RootFields, root_bytes}
 use Rattle.grid_model.specs.Lawful.{IsRootOn, Area}
-use Rattle.grid_model.specs.Images.{header_gate, root_fields, IsOpenOver, IsNewest, HasArea}
+use Rattle.grid_model.specs.Images.{header_gate, root_fields, IsOpenOver, HasArea}
 use Rattle.disk_trait.specs.Disk.{Agrees, Holds}
 use Rattle.disk_trait.specs.Moments.{After, Always, AgreesOutside}
 use Rattle.disk_trait.proofs.Pages.{page_apart, byte_written}
 use Rattle.disk_trait.proofs.Ranges.{outside_one, outside_more, outside_then}
 use Rattle.file_roots.specs.Replacing.{IsWhole, IsOneOf, ComesAfter, IsOtherOlder, IsReady, header_ranges}
-use Rattle.file_roots.proofs.Headers.{header_two, gate_is, gate_stays, fields_stay, open_stays, open_apart, area_above}
+use Rattle.file_roots.proofs.Headers.{header_two, gate_is, gate_stays, fields_stay, open_apart, area_above}
 
 -- the header page behind a root's is the other one
 pub other_header : (n m : ℕ) → header_page n ≢ header_page m → header_page (n + 1) ≡ header_page m

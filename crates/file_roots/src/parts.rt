@@ -12,9 +12,9 @@ ghost use Rattle.file_roots.specs.Roots.{fields_of, area_of, IsRoot};
 ghost use Rattle.file_roots.specs.Replacing.{Within, area_range};
 
 use crate::Root;
-use root_pages::{encode_list, encode_scale, encode_table};
 use disk_trait::{Disk, DiskFailed};
 use grid_types::Layout;
+use root_pages::{encode_list, encode_scale, encode_table};
 
 /// The boundaries of an attribute, none for one that the root does not have.
 fn boundaries_of<const K: usize>(root: &Root<K>, a: usize) -> &[u64]

@@ -1,10 +1,5 @@
-use Rattle.std.proofs.Common.{◌≡◌, ◌≢◌, ◌≤◌, ◌<◌, ◌*◌, ◌+◌, ◌%◌, ◌∙◌, ℕ, List, slice_index, sym, ap, arith}
-use Rattle.std.proofs.lemmas.Result.{on_ok_weaker}
-use Rattle.grid_types.specs.Pages.{page_of}
+use Rattle.std.proofs.Common.{◌≡◌, ◌∙◌, ℕ, List, slice_index, sym, ap, arith}
 use Rattle.grid_types.specs.Shapes.{header_page, header_gate_at}
-use Rattle.grid_model.specs.Images.{header_gate}
-use Rattle.disk_trait.specs.Disk.{Agrees}
-use Rattle.disk_trait.specs.Moments.{After, LeavesOnly}
 use Rattle.disk_trait.proofs.Moments.{stayed, joined}
 use Rattle.disk_trait.proofs.Pages.{agrees_same}
 use Rattle.file_roots.proofs.Headers.{header_two, header_inside, gate_is}

@@ -1,4 +1,4 @@
-use Rattle.std.proofs.Common.{◌≡◌, ◌≤◌, ◌*◌, ◌+◌, ◌%◌, ◌∙◌, ℕ, List, inl, sym, ap, subst, arith, length}
+use Rattle.std.proofs.Common.{◌≡◌, ◌≤◌, ◌∙◌, ℕ, List, inl, sym, subst, arith, length}
 use Rattle.std.proofs.lemmas.Result.{on_ok_weaker}
 use Rattle.grid_types.specs.Shapes.{header_page, header_gate_at, root_fields_at}
 use Rattle.grid_model.specs.Spellings.{root_bytes}

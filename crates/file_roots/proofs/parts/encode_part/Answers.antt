@@ -1,4 +1,4 @@
-use Rattle.std.proofs.Common.{◌≡◌, ◌≤◌, ◌+◌, ◌-◌, ◌*◌, ◌/◌, ◌%◌, ℕ, List, take, drop, length, sym, ap, subst, arith}
+use Rattle.std.proofs.Common.{◌-◌, ◌*◌, ◌/◌, ◌%◌, drop, length, ap, arith}
 use Rattle.std.proofs.lemmas.List.{length-take}
 use Rattle.file_roots.proofs.Slices.{half_fits}
 use Rattle.file_roots.proofs.parts.encode_part.Goals as goal

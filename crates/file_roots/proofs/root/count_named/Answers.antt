@@ -1,4 +1,4 @@
-use Rattle.std.proofs.Common.{◌≡◌, ◌+◌, ◌∙◌, ℕ, length, take, sym, ap, arith}
+use Rattle.std.proofs.Common.{◌+◌, ◌∙◌, ℕ, sym, ap, arith}
 use Rattle.file_roots.proofs.Counting.{named_more, named_as_many}
 use Rattle.file_roots.proofs.root.count_named.Goals as goal
 use Rattle.file_roots.proofs.root.count_named.Goals.{then-page, else-page}

@@ -1,4 +1,4 @@
-use Rattle.std.proofs.Common.{◌≡◌, ◌≤◌, ℕ, length, take}
+use Rattle.std.proofs.Common.{◌≡◌, ◌≤◌, length, take}
 use Rattle.grid_model.specs.Lawful.{pages_named}
 use Rattle.file_roots.proofs.root.count_named.Given as goal
 
