@@ -4,4 +4,14 @@ pub mod Counting
 pub mod Slices
 pub mod Areas
 pub mod Exchange
+pub mod Ascending
+pub mod Marking
+pub mod Pieces
+pub mod Spelled
+pub mod Growing
+pub mod Agreeing
+pub mod Whole
+pub mod Verdicts
+pub mod Beginning
+pub mod Newest
 pub mod Writing

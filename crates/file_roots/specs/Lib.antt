@@ -1,2 +1,5 @@
 pub mod Roots
 pub mod Replacing
+pub mod Damage
+pub mod Gathering
+pub mod Headers

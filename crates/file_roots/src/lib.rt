@@ -2,14 +2,21 @@
 //! directory and its buckets stand.
 #![tactic(auto)]
 
+mod choosing;
 mod closing;
 mod finishing;
+mod gathering;
+mod judging;
+mod laws;
 mod parts;
+mod reading;
 mod replacing;
 mod root;
 
 pub use closing::close_root;
 pub use finishing::finish_root;
+pub use laws::area_law;
 pub use parts::write_part;
+pub use reading::read_newest;
 pub use replacing::replace_root;
 pub use root::{NOWHERE, Root};

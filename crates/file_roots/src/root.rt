@@ -1,5 +1,5 @@
 //! What a root says.
-ghost use Rattle.std.specs.Prelude.{◌≡◌, ◌<◌, ◌^◌, length};
+ghost use Rattle.std.specs.Prelude.{◌≡◌, ◌<◌, ◌≤◌, ◌^◌, length};
 ghost use Rattle.grid_model.specs.Lawful.{pages_named};
 ghost use Rattle.root_pages.specs.Fields as pages;
 ghost use Rattle.file_roots.specs.Roots.{fields_of};
@@ -27,9 +27,9 @@ pub struct Root<const K: usize> {
 }
 
 /// How many bucket numbers a table has.
-fn count_named(table: &[u32]) -> u32
-    requires { length table.now < 2 ^ 32 }
-    ensures { result ≡ length (pages_named table.now) }
+pub fn count_named(table: &[u32]) -> usize
+    ensures value { result ≡ length (pages_named table.now) }
+    ensures small { result ≤ length table.now }
 {
     let mut count = 0;
     for page in table {
@@ -58,6 +58,6 @@ pub fn fields<const K: usize>(root: &Root<K>) -> RootFields<K>
         records: root.records,
         boundaries,
         parts: root.parts.list().len() as u32,
-        buckets: count_named(root.table.list()),
+        buckets: count_named(root.table.list()) as u32,
     }
 }

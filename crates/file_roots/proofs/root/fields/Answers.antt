@@ -20,5 +20,5 @@ returns g c =
     let root = c.args.root.now in
     let boundaries = lengths_filled (scales_of root.scales) c.loop-a.boundaries (c.loop-a.invariant.count ∙ sym c.requires.count ∙ sym (length-map root.scales (λ s. s.boundaries))) (λ k lt. c.loop-a.invariant.each k (omega (arith, lt, c.loop-a.invariant.count, c.loop-a-test.false))) in
     let parts = ap length c.list.ensures.value in
-    let buckets = c.count_named.ensures ∙ ap (λ (t : List ℕ). length (pages_named t)) c.list-2.ensures.value in
+    let buckets = c.count_named.ensures.value ∙ ap (λ (t : List ℕ). length (pages_named t)) c.list-2.ensures.value in
     λ i. record { number = root.number; session = root.session; front = root.front; records = root.records; boundaries = boundaries i; parts = parts i; buckets = buckets i }

@@ -1,0 +1,37 @@
+use Rattle.std.proofs.Common.{◌∙◌, inr, rules, subst}
+use Rattle.grid_types.specs.declared.refusal.Refusal.TheVariants.{Damaged}
+use Rattle.grid_types.specs.Shapes.{area_pages}
+use Rattle.root_pages.specs.Fields as pages
+use Rattle.linear_scales.specs.Limited.{scales_of}
+use Rattle.file_roots.specs.Damage.{HasBadPart}
+use Rattle.file_roots.specs.Gathering.{HasGathered, area_in}
+use Rattle.file_roots.proofs.Whole.{whole}
+use Rattle.file_roots.proofs.Verdicts.{passed_on, fields_same, whole_root}
+use Rattle.file_roots.proofs.reading.read_newest.Goals as goal
+
+pub read_fields-requires : goal.read_fields-requires
+read_fields-requires g c = (search rules, (c.requires.lawful, (c.requires.attributes, c.requires.size)))
+
+pub returns-in-Err-clause-damaged : goal.returns-in-Err-clause-damaged
+returns-in-Err-clause-damaged g c = λ h p e. c.in-Err.ensures.damaged h p (passed_on c.in-Err.refusal (Damaged p) e)
+
+pub returns-in-Err-read_area-clause-damaged : goal.returns-in-Err-read_area-clause-damaged
+returns-in-Err-read_area-clause-damaged g c = λ h p e.
+    let s = c.args.layout.now.shape in
+    let r = pages.fields_of c.in-Ok.fields in
+    let told = c.in-Ok.ensures.honest ∙ h in
+    let begun = c.in-Ok-new.ensures.empty (g.D.Disk.seen c.read_fields.new.disk) r c.in-Ok.ensures.lawful in
+    let bad = c.in-Err-read_area.ensures.damaged told begun p (passed_on c.in-Err-read_area.refusal (Damaged p) e) in
+    inr (inr (inr (r, c.in-Ok.ensures.found h, subst (λ image. HasBadPart s image r p) (c.in-Ok.ensures.seen h) bad)))
+
+pub returns-clause-found : goal.returns-clause-found
+returns-clause-found g c = λ h.
+    let s = c.args.layout.now.shape in
+    let seen = g.D.Disk.seen c.args.disk.now in
+    let r = pages.fields_of c.in-Ok.fields in
+    let gathered = c.read_area.new.gathered in
+    let told = c.in-Ok.ensures.honest ∙ h in
+    let begun = c.in-Ok-new.ensures.empty (g.D.Disk.seen c.read_fields.new.disk) r c.in-Ok.ensures.lawful in
+    let all = c.in-Ok-read_area.ensures.gathered told begun in
+    let area = whole s seen r (area_in gathered) c.requires.lawful c.in-Ok.ensures.lawful (subst (λ image. HasGathered s image r (area_pages s) gathered) (c.in-Ok.ensures.seen h) all).area in
+    whole_root s seen r _ (area_in gathered) (fields_same r (scales_of gathered.scales) gathered.parts gathered.table area.lawful.boundaries area.lawful.parts area.lawful.buckets) (c.in-Ok.ensures.found h) area
