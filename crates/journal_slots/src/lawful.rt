@@ -1,0 +1,47 @@
+//! Whether the fields of a batch are lawful.
+ghost use Rattle.std.specs.Prelude.{◌↔◌, IsTrue};
+ghost use Rattle.journal_slots.specs.Batches.{batch_of};
+ghost use Rattle.journal_slots.specs.Reading.{Fits, AllFit, IsLawful};
+
+use crate::Batch;
+use grid_types::{NoteOf, Noted, Update};
+
+/// The last place at which a batch may begin.
+const LAST: u64 = 9_223_372_036_854_775_792;
+
+fn fits<const K: usize>(noted: &Noted<K>) -> bool
+    ensures { IsTrue result ↔ Fits noted.now.update noted.now.note }
+{
+    match &noted.update {
+        Update::Put(_) => match &noted.note {
+            NoteOf::Plain => true,
+            NoteOf::Cut { cut, .. } => (cut.attribute as usize) < K,
+            NoteOf::Merge { .. } => false,
+        },
+        Update::Remove(_) => match &noted.note {
+            NoteOf::Plain => true,
+            NoteOf::Cut { .. } => false,
+            NoteOf::Merge { .. } => true,
+        },
+    }
+}
+
+fn all_fit<const K: usize>(updates: &[Noted<K>]) -> bool
+    ensures { IsTrue result ↔ AllFit updates.now }
+{
+    for noted in updates {
+        if !fits(noted) {
+            return false;
+        }
+    }
+    true
+}
+
+pub fn is_lawful<const K: usize>(batch: &Batch<K>) -> bool
+    ensures { IsTrue result ↔ IsLawful (batch_of batch.now) }
+{
+    batch.updates.len() >= 1
+        && batch.first >= 1
+        && batch.first <= LAST
+        && all_fit(batch.updates.as_slice())
+}

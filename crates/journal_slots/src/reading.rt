@@ -1,0 +1,150 @@
+//! A batch from the bytes of a page.
+ghost use Rattle.std.specs.Prelude.{◌≡◌, ◌≤◌, ◌+◌, ℕ, List, [], length, slice_index, IsTrue, IsFalse, IfSome, IfNone};
+ghost use Rattle.grid_types.specs.declared.note.NoteOf.{NoteOf};
+ghost use Rattle.grid_types.specs.declared.note.Noted.{Noted};
+ghost use Rattle.grid_types.specs.declared.update.Update.{Update};
+ghost use Rattle.grid_model.specs.Spellings.{slot_page};
+ghost use Rattle.grid_model.specs.Spellings as model;
+ghost use Rattle.grid_model.specs.Images.{SpellsBatch};
+ghost use Rattle.journal_slots.specs.Batches.{batch_of};
+ghost use Rattle.journal_slots.specs.Reading.{NoteAt, ChangeAt, NotedAt, UpdatesAt, IsLawful};
+
+use crate::lawful::is_lawful;
+use crate::{Batch, encode};
+use arrayvec::ArrayVec;
+use grid_types::{Cut, Data, Key, NoteOf, Noted, Record, Update};
+use page_fields::{get_corner, get_u16, get_u32, get_u64};
+
+fn read_note(page: &[u8; 4096], at: usize) -> Option<NoteOf>
+    requires room { at + 96 ≤ 4096 }
+    ensures found { IfSome result (λ n. NoteAt page.now at n) }
+    ensures none { IfNone result ((n : NoteOf) → NoteAt page.now at n → ⊥) }
+{
+    let kind = page[at + 1];
+    if kind == 1 || kind == 2 {
+        let cut = Cut {
+            attribute: page[at + 2],
+            value: get_u64(page, at + 8),
+            fresh: kind == 2,
+        };
+        let right = get_u32(page, at + 4);
+        return Some(NoteOf::Cut { cut, right });
+    }
+    match kind {
+        0 => Some(NoteOf::Plain),
+        3 => Some(NoteOf::Merge {
+            with: get_u32(page, at + 4),
+        }),
+        _ => None,
+    }
+}
+
+fn read_put<const K: usize>(page: &[u8; 4096], at: usize) -> Option<Update<K>>
+    requires room { at + 303 ≤ 4096 }
+    requires few { K ≤ 4 }
+    requires kind { slice_index page.now at ≡ 1 }
+    ensures found { IfSome result (λ u. ChangeAt K page.now at u) }
+    ensures none { IfNone result ((u : Update K) → ChangeAt K page.now at u → ⊥) }
+{
+    let len = page[at + 3] as usize;
+    let Some(value) = Data::new(&page[at + 48..at + 48 + len]) else {
+        return None;
+    };
+    let key = Key {
+        at: get_corner(page, at + 16),
+    };
+    Some(Update::Put(Record { key, value }))
+}
+
+fn read_change<const K: usize>(page: &[u8; 4096], at: usize) -> Option<Update<K>>
+    requires room { at + 303 ≤ 4096 }
+    requires few { K ≤ 4 }
+    ensures found { IfSome result (λ u. ChangeAt K page.now at u) }
+    ensures none { IfNone result ((u : Update K) → ChangeAt K page.now at u → ⊥) }
+{
+    match page[at] {
+        1 => read_put(page, at),
+        2 => Some(Update::Remove(Key {
+            at: get_corner(page, at + 16),
+        })),
+        _ => None,
+    }
+}
+
+fn read_update<const K: usize>(page: &[u8; 4096], at: usize) -> Option<Noted<K>>
+    requires room { at + 303 ≤ 4096 }
+    requires few { K ≤ 4 }
+    ensures found { IfSome result (λ u. NotedAt K page.now at u) }
+    ensures none { IfNone result ((u : Noted K) → NotedAt K page.now at u → ⊥) }
+{
+    let Some(update) = read_change(page, at) else {
+        return None;
+    };
+    let Some(note) = read_note(page, at) else {
+        return None;
+    };
+    Some(Noted { update, note })
+}
+
+/// Reads the updates of a page into `updates`, up to one whose bytes are those of no update.
+fn read_updates<const K: usize>(
+    page: &[u8; 4096],
+    count: usize,
+    updates: &mut ArrayVec<Noted<K>, 16>,
+) -> bool
+    requires many { count ≤ 16 }
+    requires few { K ≤ 4 }
+    requires empty { updates.old.items ≡ [] }
+    ensures count { IsTrue result → length updates.new.items ≡ count }
+    ensures found { IsTrue result → UpdatesAt K page.now updates.new.items }
+    ensures none { IsFalse result → (us : List (Noted K)) → length us ≡ count → UpdatesAt K page.now us → ⊥ }
+{
+    for i in 0..count {
+        let Some(noted) = read_update(page, 96 + 96 * i) else {
+            return false;
+        };
+        updates.push(noted);
+    }
+    true
+}
+
+/// Whether the batch is lawful, and this page its one spelling.
+fn is_spelled<const K: usize>(page: &[u8; 4096], batch: &Batch<K>) -> bool
+    requires few { K ≤ 4 }
+    ensures lawful { IsTrue result → IsLawful (batch_of batch.now) }
+    ensures bytes { IsTrue result → page.now ≡ slot_page (batch_of batch.now) }
+    ensures all { IsLawful (batch_of batch.now) → page.now ≡ slot_page (batch_of batch.now) → IsTrue result }
+{
+    if !is_lawful(batch) {
+        return false;
+    }
+    let mut again = [0; 4096];
+    encode(batch, &mut again);
+    again == *page
+}
+
+/// The batch whose page this is. There is one at most.
+pub fn decode<const K: usize>(page: &[u8; 4096]) -> Option<Batch<K>>
+    requires few { K ≤ 4 }
+    ensures found { IfSome result (λ b. SpellsBatch page.now (batch_of b)) }
+    ensures only { IfSome result (λ b. (c : model.Batch K) → SpellsBatch page.now c → batch_of b ≡ c) }
+    ensures none { IfNone result ((c : model.Batch K) → SpellsBatch page.now c → ⊥) }
+{
+    let count = get_u16(page, 4);
+    if count > 16 {
+        return None;
+    }
+    let mut batch = Batch {
+        session: get_u64(page, 8),
+        first: get_u64(page, 16),
+        updates: ArrayVec::new(),
+    };
+    if !read_updates(page, count as usize, &mut batch.updates) {
+        return None;
+    }
+    if is_spelled(page, &batch) {
+        Some(batch)
+    } else {
+        None
+    }
+}

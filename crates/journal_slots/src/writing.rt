@@ -1,0 +1,52 @@
+//! The page of a batch.
+ghost use Rattle.std.specs.Prelude.{◌≡◌, ◌≤◌, ◌+◌, ◌++◌, take};
+ghost use Rattle.grid_model.specs.Spellings.{update_bytes, slot_page};
+ghost use Rattle.grid_model.specs.Lawful.{IsBatch};
+ghost use Rattle.grid_model.specs.Images.{SpellsBatch};
+ghost use Rattle.journal_slots.specs.Batches.{batch_of};
+ghost use Rattle.journal_slots.specs.Spelling.{head};
+
+use crate::Batch;
+use crate::fields::{attribute, boundary, bucket, bytes, code, key, kind};
+use grid_types::Noted;
+use page_fields::{put_bytes, put_corner, put_zeros, set_u16, set_u32, set_u64};
+
+fn put_update<const K: usize>(page: &mut [u8; 4096], at: usize, noted: &Noted<K>)
+    requires room { at + 96 ≤ 4096 }
+    requires few { K ≤ 4 }
+    ensures front { take (at + 96) page.new ≡ take at page.old ++ update_bytes noted.now }
+{
+    let note = &noted.note;
+    let data = bytes(&noted.update);
+    let kinds = [kind(&noted.update), code(note), attribute(note), data.len() as u8];
+    put_bytes(page, at, &kinds);
+    set_u32(page, at + 4, bucket(note));
+    set_u64(page, at + 8, boundary(note));
+    put_corner(page, at + 16, &key(&noted.update).at);
+    put_bytes(page, at + 48, data);
+    put_zeros(page, at + 48 + data.len(), at + 96);
+}
+
+fn put_head<const K: usize>(page: &mut [u8; 4096], batch: &Batch<K>)
+    ensures front { take 96 page.new ≡ head (batch_of batch.now) }
+{
+    put_bytes(page, 0, b"GFJ1");
+    set_u16(page, 4, batch.updates.len() as u16);
+    put_bytes(page, 6, &[0, 0]);
+    set_u64(page, 8, batch.session);
+    set_u64(page, 16, batch.first);
+    put_zeros(page, 24, 96);
+}
+
+/// Makes `page` the page of the batch, whatever it was before.
+pub fn encode<const K: usize>(batch: &Batch<K>, page: &mut [u8; 4096])
+    requires few { K ≤ 4 }
+    ensures written { page.new ≡ slot_page (batch_of batch.now) }
+    ensures spelled { IsBatch (batch_of batch.now) → SpellsBatch page.new (batch_of batch.now) }
+{
+    put_head(page, batch);
+    for (i, noted) in batch.updates.as_slice().iter().enumerate() {
+        put_update(page, 96 + 96 * i, noted);
+    }
+    put_zeros(page, 96 + 96 * batch.updates.len(), 4096);
+}
