@@ -1,3 +1,5 @@
 pub mod Parts
 pub mod Standing
 pub mod Alone
+pub mod GatePages
+pub mod Stages

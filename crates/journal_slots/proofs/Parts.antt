@@ -18,7 +18,7 @@ zeros_behind n m v le =
     ∙ ap (λ (z : List ℕ). v ++ z) (replicate-append-replicate {A = ℕ} (n - length v) m 0 ∙ ap (λ (k : ℕ). replicate {A = ℕ} k 0) all)
 
 -- a field with so many zeros behind it
-filled : (n m : ℕ) (v : List ℕ) → length v + m ≡ n → padded n v ≡ v ++ replicate m 0
+pub filled : (n m : ℕ) (v : List ℕ) → length v + m ≡ n → padded n v ≡ v ++ replicate m 0
 unfolding padded
 filled n m v e =
     let rest : n - length v ≡ m = omega arith in

@@ -2,3 +2,6 @@ pub mod Batches
 pub mod Spelling
 pub mod Reading
 pub mod Laws
+pub mod Gates
+pub mod Publishing
+pub mod Scans

@@ -2,13 +2,24 @@
 #![tactic(auto)]
 
 mod batch;
+mod batches;
 mod fields;
+mod gates;
 mod lawful;
 mod laws;
+mod pages;
+mod publishing;
 mod reading;
+mod scanning;
+mod sections;
 mod writing;
 
 pub use batch::Batch;
+pub use batches::Batches;
+pub use gates::{are_gates, encode_gates};
 pub use laws::spelling_law;
+pub use publishing::publish_batch;
 pub use reading::decode;
+pub use scanning::scan_half;
+pub use sections::{clear_half, open_gate, write_batch};
 pub use writing::encode;

@@ -1,0 +1,70 @@
+-- What a scan of a half of the journal finds.
+use Rattle.std.specs.Prelude.{◌≡◌, ◌⊎◌, ◌<◌, ◌==◌, ◌++◌, ◌∷◌, [], ℕ, List, length, map, filter, slice_index}
+use Rattle.grid_types.specs.declared.shape.Shape.{Shape}
+use Rattle.grid_types.specs.declared.refusal.Refusal.{Refusal}
+use Rattle.grid_types.specs.declared.refusal.Refusal.TheVariants as refusal
+use Rattle.grid_types.specs.Pages.{page_of}
+use Rattle.grid_types.specs.Shapes as places
+use Rattle.grid_model.specs.Lists.{below}
+use Rattle.grid_model.specs.Spellings.{Batch, gate_page}
+use Rattle.grid_model.specs.Images.{SpellsBatch, HasBatches, slots_where, of_session}
+
+-- the gate page of a half is spelled, with these gates
+pub record HasGatesOf (s : Shape) (image : List ℕ) (half : ℕ) (gates : List ℕ) : Type 0 where
+  pub count : length gates ≡ s.slots
+  pub page : page_of (places.gate_page s half) image ≡ gate_page half gates
+
+-- these are the batches of a session on some slots: each of the slots spells a batch, and of these they are those of the session
+pub record AreBatchesOn {K : ℕ} (s : Shape) (image : List ℕ) (slots : List (ℕ × ℕ)) (session : ℕ) (batches : List (Batch K)) : Type 0 where
+  pub all : List (Batch K)
+  pub each : HasBatches s image slots all
+  pub are : batches ≡ of_session session all
+
+-- the open slots of a half, in order: those whose gate is 1
+abbrev pub open_slots_of : List ℕ → ℕ → List (ℕ × ℕ)
+open_slots_of gates half = slots_where (λ g. g == 1) gates half
+
+-- a scan of a half for a session finds these batches: its gate page is spelled, and they are the session's on its open slots, in order
+pub record IsScan {K : ℕ} (s : Shape) (image : List ℕ) (half session : ℕ) (batches : List (Batch K)) : Type 0 where
+  pub gates : List ℕ
+  pub spelled : HasGatesOf s image half gates
+  pub found : AreBatchesOn s image (open_slots_of gates half) session batches
+
+-- a slot's page spells some batch of K attributes
+pub record SpellsSome (K : ℕ) (bytes : List ℕ) : Type 0 where
+  pub batch : Batch K
+  pub spelled : SpellsBatch bytes batch
+
+-- a page is the first bad one of the open slots: the page of an open slot that spells no batch, where each open slot before it spells one
+pub record IsFirstBadSlot (K : ℕ) (s : Shape) (image : List ℕ) (half : ℕ) (gates : List ℕ) (page : ℕ) : Type 0 where
+  pub slot : ℕ
+  pub inside : slot < s.slots
+  pub opened : slice_index gates slot ≡ 1
+  pub page_is : page ≡ places.slot_page s half slot
+  pub none : SpellsSome K (page_of page image) → ⊥
+  pub before : (i : ℕ) → i < slot → slice_index gates i ≡ 1 → SpellsSome K (page_of (places.slot_page s half i) image)
+
+-- the gate page of a half spells no gates
+pub record IsBadGates (s : Shape) (image : List ℕ) (half page : ℕ) : Type 0 where
+  pub page_is : page ≡ places.gate_page s half
+  pub none : (gates : List ℕ) → HasGatesOf s image half gates → ⊥
+
+-- the gate page of a half is spelled, and a page is the first bad one of its open slots
+pub record IsBadSlot (K : ℕ) (s : Shape) (image : List ℕ) (half page : ℕ) : Type 0 where
+  pub gates : List ℕ
+  pub spelled : HasGatesOf s image half gates
+  pub first : IsFirstBadSlot K s image half gates page
+
+-- a page is the first bad one of a half: its gate page, or else a page of an open slot
+abbrev pub IsFirstBad : (K : ℕ) → Shape → List ℕ → ℕ → ℕ → Type 0
+IsFirstBad K s image half page = IsBadGates s image half page ⊎ IsBadSlot K s image half page
+
+-- a page spells a batch, and after it these batches are those from before, with that one behind them where it is of the session
+pub record IsMore {K : ℕ} (bytes : List ℕ) (session : ℕ) (before after : List (Batch K)) : Type 0 where
+  pub batch : Batch K
+  pub spelled : SpellsBatch bytes batch
+  pub are : after ≡ before ++ of_session session (batch ∷ [])
+
+-- a scan is refused for one of three reasons: a read failed, there is no memory, or a page is damaged
+abbrev pub IsRefusalOfScan : Refusal → Type 0
+IsRefusalOfScan e = (e ≡ refusal.ReadFault) ⊎ ((e ≡ refusal.NoMemory) ⊎ ((p : ℕ) × (e ≡ refusal.Damaged p)))

@@ -1,0 +1,51 @@
+//! Lists of batches.
+ghost use Rattle.std.specs.Prelude.{◌≡◌, ◌++◌, ◌∷◌, [], map, OnOk, OnErr};
+ghost use Rattle.journal_slots.specs.Batches.{batch_of};
+
+use crate::Batch;
+use std::alloc::{AllocError, Global};
+use std::marker::Model;
+
+/// Batches, in order. Its own type, so that contracts see it as the list of the model's batches.
+#[derive(Drop)]
+pub struct Batches<const K: usize> {
+    list: Vec<Batch<K>>,
+}
+
+impl<const K: usize> Model for Batches<K> {
+    ghost use Rattle.std.specs.Prelude.{List, map};
+    ghost use Rattle.grid_model.specs.Spellings as model;
+    ghost use Rattle.journal_slots.specs.Batches.{batch_of};
+
+    ghost Value = { List (model.Batch K) };
+
+    ghost view = { λ b. map batch_of b.list.items };
+}
+
+impl<const K: usize> Batches<K> {
+    /// No batches.
+    pub fn new(alloc: Global) -> Batches<K>
+        ensures { result ≡ [] }
+    {
+        Batches {
+            list: Vec::new(alloc),
+        }
+    }
+
+    /// Adds a batch at the end. Its only error is want of memory.
+    pub fn push(&mut self, batch: Batch<K>) -> Result<(), AllocError>
+        ensures added { OnOk result (self.new ≡ self.old ++ batch_of batch.entry ∷ []) }
+        ensures refused { OnErr result (self.new ≡ self.old) }
+    {
+        match self.list.push(batch) {
+            Ok(()) => Ok(()),
+            Err(_) => Err(AllocError),
+        }
+    }
+
+    pub fn list(&self) -> &[Batch<K>]
+        ensures { map batch_of result.now ≡ self.now }
+    {
+        &self.list
+    }
+}

@@ -1,0 +1,148 @@
+//! The batches of a half of the journal.
+ghost use Rattle.std.specs.Prelude.{◌≡◌, ◌<◌, ◌≤◌, ◌+◌, ◌*◌, ◌++◌, ◌∷◌, [], ◌↔◌, List, ℕ, IsTrue, IfOk, IfErr, OnOk, IsErrOf, length};
+ghost use Rattle.grid_types.specs.declared.refusal.Refusal.TheVariants.{ReadFault, Damaged};
+ghost use Rattle.grid_types.specs.Pages.{page_of};
+ghost use Rattle.grid_types.specs.Shapes.{is_shape, file_pages, slot_page};
+ghost use Rattle.disk_trait.specs.Causes.{Rose};
+ghost use Rattle.disk_trait.specs.Moments.{LeavesOnly};
+ghost use Rattle.grid_model.specs.Spellings as model;
+ghost use Rattle.journal_slots.specs.Scans.{HasGatesOf, AreBatchesOn, IsScan, SpellsSome, IsFirstBadSlot, IsFirstBad, IsRefusalOfScan, open_slots_of, IsMore};
+
+use crate::pages::read_page;
+use crate::{Batches, are_gates, decode};
+use disk_trait::{Disk, Steps};
+use grid_types::{Layout, Refusal};
+use std::alloc::{AllocError, Global};
+use std::sync::ledger::Ledger;
+
+/// Adds the batch of a slot to those that were found, if it is of the session.
+fn scan_slot<const K: usize, D: Disk, L: Ledger>(
+    disk: &mut D,
+    page: u32,
+    session: u64,
+    found: &mut Batches<K>,
+    steps: &mut Steps<L>,
+) -> Result<(), Refusal>
+    requires few { K ≤ 4 }
+    requires size { page * 4096 + 4096 ≤ D.extent disk.old }
+    ensures found { IsTrue (D.honest disk.old) → OnOk result (IsMore (page_of page (D.seen disk.old)) session found.old found.new) }
+    ensures damaged { IsTrue (D.honest disk.old) → (p : ℕ) → IsErrOf result (Damaged p) → (p ≡ page) × (SpellsSome K (page_of page (D.seen disk.old)) → ⊥) }
+    ensures read_fault { IsErrOf result ReadFault → Rose (D.read_count disk.old) (D.read_count disk.new) }
+    ensures no_other { IfErr result IsRefusalOfScan }
+    ensures ticks { steps.new ≡ steps.old + 1 }
+    ensures seen { IsTrue (D.honest disk.old) → D.seen disk.new ≡ D.seen disk.old }
+    ensures crash { IsTrue (D.honest disk.old) → (c : List ℕ) → D.may_leave disk.new c ↔ D.may_leave disk.old c }
+    ensures moments { IsTrue (D.honest disk.old) → LeavesOnly D.moment D.left_since disk.old disk.new (D.may_leave disk.old) }
+    ensures extent { D.extent disk.new ≡ D.extent disk.old }
+    ensures honest { D.honest disk.new ≡ D.honest disk.old }
+    ensures reads { D.read_count disk.old ≤ D.read_count disk.new }
+    ensures writes { D.write_count disk.old ≤ D.write_count disk.new }
+{
+    let mut bytes = [0; 4096];
+    match read_page(disk, page, &mut bytes, steps) {
+        Ok(()) => {}
+        Err(why) => return Err(why),
+    }
+    let Some(batch) = decode(&bytes) else {
+        return Err(Refusal::Damaged { page });
+    };
+    if batch.session != session {
+        return Ok(());
+    }
+    match found.push(batch) {
+        Ok(()) => Ok(()),
+        Err(AllocError) => Err(Refusal::NoMemory),
+    }
+}
+
+/// The batches of the session on the slots of a half whose gates are open, in order.
+fn scan_slots<const K: usize, D: Disk, L: Ledger>(
+    disk: &mut D,
+    layout: &Layout,
+    half: u8,
+    gates: &[u8],
+    session: u64,
+    found: &mut Batches<K>,
+    steps: &mut Steps<L>,
+) -> Result<(), Refusal>
+    requires lawful { IsTrue (is_shape layout.now.shape) }
+    requires two { half < 2 }
+    requires size { file_pages layout.now.shape * 4096 ≤ D.extent disk.old }
+    requires few { K ≤ 4 }
+    requires gates { length gates.now ≡ layout.now.shape.slots }
+    requires empty { found.old ≡ [] }
+    ensures found { IsTrue (D.honest disk.old) → OnOk result (AreBatchesOn layout.now.shape (D.seen disk.old) (open_slots_of gates.now half) session found.new) }
+    ensures damaged { IsTrue (D.honest disk.old) → (p : ℕ) → IsErrOf result (Damaged p) → IsFirstBadSlot K layout.now.shape (D.seen disk.old) half gates.now p }
+    ensures read_fault { IsErrOf result ReadFault → Rose (D.read_count disk.old) (D.read_count disk.new) }
+    ensures no_other { IfErr result IsRefusalOfScan }
+    ensures ticks { steps.old ≤ steps.new }
+    ensures all { OnOk result (steps.new ≡ steps.old + length (open_slots_of gates.now half)) }
+    ensures most { steps.new ≤ steps.old + layout.now.shape.slots }
+    ensures seen { IsTrue (D.honest disk.old) → D.seen disk.new ≡ D.seen disk.old }
+    ensures crash { IsTrue (D.honest disk.old) → (c : List ℕ) → D.may_leave disk.new c ↔ D.may_leave disk.old c }
+    ensures moments { IsTrue (D.honest disk.old) → LeavesOnly D.moment D.left_since disk.old disk.new (D.may_leave disk.old) }
+    ensures extent { D.extent disk.new ≡ D.extent disk.old }
+    ensures honest { D.honest disk.new ≡ D.honest disk.old }
+    ensures reads { D.read_count disk.old ≤ D.read_count disk.new }
+    ensures writes { D.write_count disk.old ≤ D.write_count disk.new }
+{
+    for slot in 0..layout.shape.slots {
+        if gates[slot as usize] != 1 {
+            continue;
+        }
+        let page = layout.slot_page(half, slot);
+        match scan_slot(disk, page, session, found, steps) {
+            Ok(()) => {}
+            Err(why) => return Err(why),
+        }
+    }
+    Ok(())
+}
+
+/// The batches of a session in a half of the journal: those on the slots whose gates are open, in order. An open gate is 1.
+/// A page that spells nothing where it has to is named; the first such page ends the scan.
+pub fn scan_half<const K: usize, D: Disk, L: Ledger>(
+    alloc: Global,
+    disk: &mut D,
+    layout: &Layout,
+    half: u8,
+    session: u64,
+    steps: &mut Steps<L>,
+) -> Result<Batches<K>, Refusal>
+    requires lawful { IsTrue (is_shape layout.now.shape) }
+    requires two { half < 2 }
+    requires size { file_pages layout.now.shape * 4096 ≤ D.extent disk.old }
+    requires few { K ≤ 4 }
+    ensures found { IsTrue (D.honest disk.old) → IfOk result (IsScan layout.now.shape (D.seen disk.old) half session) }
+    ensures only { IsTrue (D.honest disk.old) → IfOk result (λ bs. (cs : List (model.Batch K)) → IsScan layout.now.shape (D.seen disk.old) half session cs → bs ≡ cs) }
+    ensures damaged { IsTrue (D.honest disk.old) → (p : ℕ) → IsErrOf result (Damaged p) → IsFirstBad K layout.now.shape (D.seen disk.old) half p }
+    ensures read_fault { IsErrOf result ReadFault → Rose (D.read_count disk.old) (D.read_count disk.new) }
+    ensures no_other { IfErr result IsRefusalOfScan }
+    ensures least { steps.old + 1 ≤ steps.new }
+    ensures most { steps.new ≤ steps.old + 1 + layout.now.shape.slots }
+    ensures ticks { IsTrue (D.honest disk.old) → OnOk result ((gates : List ℕ) → HasGatesOf layout.now.shape (D.seen disk.old) half gates → steps.new ≡ steps.old + 1 + length (open_slots_of gates half)) }
+    ensures seen { IsTrue (D.honest disk.old) → D.seen disk.new ≡ D.seen disk.old }
+    ensures crash { IsTrue (D.honest disk.old) → (c : List ℕ) → D.may_leave disk.new c ↔ D.may_leave disk.old c }
+    ensures moments { IsTrue (D.honest disk.old) → LeavesOnly D.moment D.left_since disk.old disk.new (D.may_leave disk.old) }
+    ensures extent { D.extent disk.new ≡ D.extent disk.old }
+    ensures honest { D.honest disk.new ≡ D.honest disk.old }
+    ensures reads { D.read_count disk.old ≤ D.read_count disk.new }
+    ensures writes { D.write_count disk.old ≤ D.write_count disk.new }
+{
+    let mut bytes = [0; 4096];
+    let page = layout.gate_page(half);
+    match read_page(disk, page, &mut bytes, steps) {
+        Ok(()) => {}
+        Err(why) => return Err(why),
+    }
+    let slots = layout.shape.slots;
+    if !are_gates(&bytes, half, slots) {
+        return Err(Refusal::Damaged { page });
+    }
+    let mut found = Batches::new(alloc);
+    let gates = &bytes[96..96 + slots as usize];
+    match scan_slots(disk, layout, half, gates, session, &mut found, steps) {
+        Ok(()) => Ok(found),
+        Err(why) => Err(why),
+    }
+}

@@ -1,0 +1,114 @@
+//! What is written into the journal: a batch, a gate that is opened, and gates that are closed. Each is on the disk when
+//! its call is done.
+ghost use Rattle.std.specs.Prelude.{◌≡◌, ◌<◌, ◌≤◌, ◌+◌, ◌*◌, ◌/◌, ◌%◌, ◌∷◌, [], IsTrue, OnOk, replicate};
+ghost use Rattle.grid_types.specs.Shapes.{is_shape, file_pages, slot_page, slot_gate_at};
+ghost use Rattle.disk_trait.specs.Causes.{HasCause};
+ghost use Rattle.disk_trait.specs.Disk.{Only, Agrees, Holds};
+ghost use Rattle.disk_trait.specs.Moments.{After, LeavesOnly};
+ghost use Rattle.grid_model.specs.Lawful.{IsBatch};
+ghost use Rattle.journal_slots.specs.Batches.{batch_of};
+ghost use Rattle.journal_slots.specs.Publishing.{HasBatch};
+
+use crate::{Batch, encode};
+use disk_trait::{Disk, DiskFailed, write_through};
+use grid_types::Layout;
+
+/// The byte of a slot's gate, counted from the start of the file.
+fn gate_at(layout: &Layout, half: u8, slot: u32) -> u64
+    requires lawful { IsTrue (is_shape layout.now.shape) }
+    requires two { half < 2 }
+    requires inside { slot < layout.now.shape.slots }
+    ensures value { result ≡ slot_gate_at layout.now.shape half slot }
+    ensures inside { result / 4096 < file_pages layout.now.shape }
+    ensures in_page { result % 4096 ≡ 96 + slot }
+    ensures few { layout.now.shape.slots ≤ 4000 }
+{
+    layout.gate_page(half) as u64 * 4096 + 96 + slot as u64
+}
+
+/// Writes a batch on its slot page and syncs. At each moment of it a crash leaves what it might have left before, but for
+/// the bytes of that page.
+pub fn write_batch<const K: usize, D: Disk>(
+    disk: &mut D,
+    layout: &Layout,
+    half: u8,
+    slot: u32,
+    batch: &Batch<K>,
+) -> Result<(), DiskFailed>
+    requires lawful { IsTrue (is_shape layout.now.shape) }
+    requires two { half < 2 }
+    requires inside { slot < layout.now.shape.slots }
+    requires size { file_pages layout.now.shape * 4096 ≤ D.extent disk.old }
+    requires few { K ≤ 4 }
+    requires batch { IsBatch (batch_of batch.now) }
+    ensures spelled { IsTrue (D.honest disk.old) → OnOk result (HasBatch layout.now.shape half slot (batch_of batch.now) (D.seen disk.new)) }
+    ensures durable { IsTrue (D.honest disk.old) → OnOk result (Only (D.seen disk.new) (D.may_leave disk.new)) }
+    ensures outside { IsTrue (D.honest disk.old) → Agrees (slot_page layout.now.shape half slot * 4096) 4096 (D.seen disk.old) (D.seen disk.new) }
+    ensures moments { IsTrue (D.honest disk.old) → LeavesOnly D.moment D.left_since disk.old disk.new
+        (After (Agrees (slot_page layout.now.shape half slot * 4096) 4096) (D.may_leave disk.old)) }
+    ensures extent { D.extent disk.new ≡ D.extent disk.old }
+    ensures honest { D.honest disk.new ≡ D.honest disk.old }
+    ensures cause { HasCause (D.write_count disk.old) (D.write_count disk.new) result }
+    ensures other { D.read_count disk.old ≤ D.read_count disk.new }
+{
+    let mut page = [0; 4096];
+    encode(batch, &mut page);
+    let at = layout.slot_page(half, slot) as u64 * 4096;
+    write_through(disk, at, &page)
+}
+
+/// Opens the gate of a slot and syncs. At each moment of it a crash leaves what it might have left before, but for that
+/// one byte.
+pub fn open_gate<D: Disk>(
+    disk: &mut D,
+    layout: &Layout,
+    half: u8,
+    slot: u32,
+) -> Result<(), DiskFailed>
+    requires lawful { IsTrue (is_shape layout.now.shape) }
+    requires two { half < 2 }
+    requires inside { slot < layout.now.shape.slots }
+    requires size { file_pages layout.now.shape * 4096 ≤ D.extent disk.old }
+    ensures opened { IsTrue (D.honest disk.old) → OnOk result (Holds (D.seen disk.old) (slot_gate_at layout.now.shape half slot) (1 ∷ []) (D.seen disk.new)) }
+    ensures durable { IsTrue (D.honest disk.old) → OnOk result (Only (D.seen disk.new) (D.may_leave disk.new)) }
+    ensures outside { IsTrue (D.honest disk.old) → Agrees (slot_gate_at layout.now.shape half slot) 1 (D.seen disk.old) (D.seen disk.new) }
+    ensures moments { IsTrue (D.honest disk.old) → LeavesOnly D.moment D.left_since disk.old disk.new
+        (After (Agrees (slot_gate_at layout.now.shape half slot) 1) (D.may_leave disk.old)) }
+    ensures extent { D.extent disk.new ≡ D.extent disk.old }
+    ensures honest { D.honest disk.new ≡ D.honest disk.old }
+    ensures cause { HasCause (D.write_count disk.old) (D.write_count disk.new) result }
+    ensures other { D.read_count disk.old ≤ D.read_count disk.new }
+{
+    let at = gate_at(layout, half, slot);
+    write_through(disk, at, &[1])
+}
+
+/// Closes the gates of the first `used` slots of a half, in one write, and syncs. For none it does nothing.
+pub fn clear_half<D: Disk>(
+    disk: &mut D,
+    layout: &Layout,
+    half: u8,
+    used: u32,
+) -> Result<(), DiskFailed>
+    requires lawful { IsTrue (is_shape layout.now.shape) }
+    requires two { half < 2 }
+    requires inside { used ≤ layout.now.shape.slots }
+    requires size { file_pages layout.now.shape * 4096 ≤ D.extent disk.old }
+    ensures cleared { IsTrue (D.honest disk.old) → OnOk result (Holds (D.seen disk.old) (slot_gate_at layout.now.shape half 0) (replicate used 0) (D.seen disk.new)) }
+    ensures durable { IsTrue (D.honest disk.old) → 1 ≤ used → OnOk result (Only (D.seen disk.new) (D.may_leave disk.new)) }
+    ensures outside { IsTrue (D.honest disk.old) → Agrees (slot_gate_at layout.now.shape half 0) used (D.seen disk.old) (D.seen disk.new) }
+    ensures moments { IsTrue (D.honest disk.old) → LeavesOnly D.moment D.left_since disk.old disk.new
+        (After (Agrees (slot_gate_at layout.now.shape half 0) used) (D.may_leave disk.old)) }
+    ensures nothing { used ≡ 0 → disk.new ≡ disk.old }
+    ensures extent { D.extent disk.new ≡ D.extent disk.old }
+    ensures honest { D.honest disk.new ≡ D.honest disk.old }
+    ensures cause { HasCause (D.write_count disk.old) (D.write_count disk.new) result }
+    ensures other { D.read_count disk.old ≤ D.read_count disk.new }
+{
+    if used == 0 {
+        return Ok(());
+    }
+    let at = gate_at(layout, half, 0);
+    let closed = [0; 4000];
+    write_through(disk, at, &closed[..used as usize])
+}
