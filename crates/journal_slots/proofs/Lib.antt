@@ -3,3 +3,5 @@ pub mod Standing
 pub mod Alone
 pub mod GatePages
 pub mod Stages
+pub mod OpenSlots
+pub mod OneScan

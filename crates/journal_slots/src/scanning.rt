@@ -99,6 +99,15 @@ fn scan_slots<const K: usize, D: Disk, L: Ledger>(
     Ok(())
 }
 
+/// How many slots each half has.
+fn slots_of(layout: &Layout) -> u32
+    requires { IsTrue (is_shape layout.now.shape) }
+    ensures value { result ≡ layout.now.shape.slots }
+    ensures few { result ≤ 4000 }
+{
+    layout.shape.slots
+}
+
 /// The batches of a session in a half of the journal: those on the slots whose gates are open, in order. An open gate is 1.
 /// A page that spells nothing where it has to is named; the first such page ends the scan.
 pub fn scan_half<const K: usize, D: Disk, L: Ledger>(
@@ -135,7 +144,7 @@ pub fn scan_half<const K: usize, D: Disk, L: Ledger>(
         Ok(()) => {}
         Err(why) => return Err(why),
     }
-    let slots = layout.shape.slots;
+    let slots = slots_of(layout);
     if !are_gates(&bytes, half, slots) {
         return Err(Refusal::Damaged { page });
     }
