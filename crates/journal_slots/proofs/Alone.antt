@@ -1,7 +1,6 @@
 -- In a page stands one batch at most, and one that stands there is lawful where its fields are.
-use Rattle.std.proofs.Common.{◌≡◌, ◌<◌, ◌≤◌, ◌+◌, ◌*◌, ◌^◌, ℕ, Bool, true, false, List, length, take, drop, get_or, slice_index, refl, sym, ap, subst, ◌∙◌, arith}
+use Rattle.std.proofs.Common.{◌≡◌, ◌≤◌, ◌+◌, ◌*◌, ℕ, Bool, true, false, List, length, take, drop, get_or, slice_index, refl, sym, ap, subst, ◌∙◌, arith}
 use Rattle.std.specs.Prelude.{cond}
-use Rattle.std.specs.List.{All}
 use Rattle.std.proofs.lemmas.List.{same_lists, length-take}
 use Rattle.grid_types.specs.declared.note.Cut.{Cut}
 use Rattle.grid_types.specs.declared.note.NoteOf.{NoteOf}
@@ -12,10 +11,9 @@ use Rattle.grid_types.specs.declared.update.Update.TheVariants.{Put, Remove}
 use Rattle.grid_types.specs.Keys.{IsKey}
 use Rattle.page_fields.specs.Corners.{CornerAt}
 use Rattle.page_fields.proofs.Places.{one_corner}
-use Rattle.grid_model.specs.Notes.{key_of}
-use Rattle.grid_model.specs.Spellings.{Batch, data_of}
-use Rattle.grid_model.specs.Lawful.{IsUpdateOf, IsNotedUpdate, StandsWith, IsBatch}
-use Rattle.journal_slots.specs.Reading.{CutAt, NoteAt, PutAt, ChangeAt, NotedAt, UpdatesAt, BatchAt, Fits, IsLawful}
+use Rattle.grid_model.specs.Spellings.{Batch}
+use Rattle.grid_model.specs.Lawful.{IsUpdateOf, StandsWith, IsBatch}
+use Rattle.journal_slots.specs.Reading.{CutAt, NoteAt, ChangeAt, NotedAt, BatchAt, NoteFits, IsLawful}
 
 -- the code of a cut tells whether its boundary is fresh
 abbrev cut_code : Bool → ℕ
@@ -90,7 +88,7 @@ change_fits K page at (Put r) x = record {
 }
 change_fits K page at (Remove k) x = record { key = key_fits K page (at + 16) k.at x.key_is; value = omega arith }
 
-note_fits : (K : ℕ) (page : List ℕ) (at : ℕ) (u : Update K) (n : NoteOf) → NoteAt page at n → Fits u n → StandsWith u n
+note_fits : (K : ℕ) (page : List ℕ) (at : ℕ) (u : Update K) (n : NoteOf) → NoteAt page at n → NoteFits u n → StandsWith u n
 note_fits K page at u note.Plain x f = tt
 note_fits K page at (Put r) (note.Cut c right) x f = (f, x.in_range, x.bucket_in_range)
 note_fits K page at (Remove k) (note.Cut c right) x f = absurd f
@@ -113,7 +111,7 @@ made K page b read few lawful = record {
       };
 }
 
-fits_there : {K : ℕ} (u : Update K) (n : NoteOf) → StandsWith u n → Fits u n
+fits_there : {K : ℕ} (u : Update K) (n : NoteOf) → StandsWith u n → NoteFits u n
 fits_there (Put r) note.Plain s = tt
 fits_there (Remove k) note.Plain s = tt
 fits_there (Put r) (note.Cut c right) s = s.0

@@ -1,5 +1,5 @@
 -- A page whose fields are those of a gate page is the spelling of the gates that it has.
-use Rattle.std.proofs.Common.{◌≡◌, ◌≤◌, ◌<◌, ◌+◌, ◌-◌, ◌⊎◌, ℕ, zero, suc, List, [], ◌∷◌, ◌++◌, length, take, drop, get_or, slice_index, replicate, codes, refl, sym, ap, ◌∙◌, append_assoc, length-append, arith}
+use Rattle.std.proofs.Common.{◌≡◌, ◌≤◌, ◌<◌, ◌+◌, ◌-◌, ℕ, zero, suc, List, [], ◌∷◌, ◌++◌, length, take, drop, get_or, replicate, codes, refl, sym, ap, ◌∙◌, append_assoc, length-append, arith}
 use Rattle.std.proofs.lemmas.List.{drop-drop, take-append-drop, take-replicate, drop_all, append-nil, take_at, length-take-le, length-drop, get_or-drop, get_or_append_left, get_or-replicate, length-replicate}
 use Rattle.page_fields.specs.Fields.{bytes_of, AreZeros}
 use Rattle.page_fields.specs.Padded.{padded}
@@ -7,7 +7,7 @@ use Rattle.page_fields.proofs.BytesOf.{length-bytes_of}
 use Rattle.page_fields.proofs.Places.{behind}
 use Rattle.page_fields.proofs.ZeroParts.{zeros_same}
 use Rattle.grid_model.specs.Spellings.{page, gate_page}
-use Rattle.journal_slots.specs.Gates.{IsGatePage, gates_in, IsGateHead}
+use Rattle.journal_slots.specs.Gates.{gates_in, IsGateHead}
 use Rattle.journal_slots.proofs.Parts.{filled}
 
 -- the head of a gate page

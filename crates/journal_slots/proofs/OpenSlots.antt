@@ -1,9 +1,9 @@
 -- What a scan has found up to a slot.
-use Rattle.std.proofs.Common.{◌≡◌, ◌≢◌, ◌<◌, ◌≤◌, ◌⊎◌, inl, inr, ⊎_elim, ◌+◌, ◌==◌, ℕ, zero, suc, true, false, List, [], ◌∷◌, ◌++◌, length, take, get_or, slice_index, map, refl, sym, ap, subst, ◌∙◌, arith, length-append}
+use Rattle.std.proofs.Common.{◌≡◌, ◌≢◌, ◌<◌, ◌≤◌, ◌⊎◌, inl, inr, ◌+◌, ◌==◌, ℕ, zero, suc, false, List, [], ◌∷◌, ◌++◌, length, get_or, slice_index, map, refl, sym, ap, subst, ◌∙◌, arith}
 use Rattle.std.specs.Prelude.{Some, slice_get, filter, Bool}
 use Rattle.std.specs.List.{range_with_len}
 use Rattle.std.proofs.lemmas.Bool.{ne_eqb}
-use Rattle.std.proofs.lemmas.List.{map-append, append-nil, same_lists, length-map, get_or_append_left, get_or_at, length_push}
+use Rattle.std.proofs.lemmas.List.{map-append, append-nil, length-map, get_or_append_left, get_or_at, length_push}
 use Rattle.std.proofs.lemmas.List.Elements.{filter-append}
 use Rattle.std.proofs.lemmas.List.FromFn.{length-range_with_len}
 use Rattle.std.proofs.lemmas.List.Sums.{length-filter, count_by-le-length}
@@ -13,7 +13,7 @@ use Rattle.grid_types.specs.Pages.{page_of}
 use Rattle.grid_types.specs.Shapes as places
 use Rattle.grid_model.specs.Lists.{below}
 use Rattle.grid_model.specs.Spellings.{Batch}
-use Rattle.grid_model.specs.Images.{SpellsBatch, HasBatches, of_session}
+use Rattle.grid_model.specs.Images.{SpellsBatch, of_session}
 use Rattle.journal_slots.specs.Scans.{AreBatchesOn, SpellsSome, IsMore}
 
 below_or_at : (i n : ℕ) → i < n + 1 → (i < n) ⊎ (i ≡ n)
@@ -77,16 +77,19 @@ module _ {K : ℕ} (s : Shape) (image : List ℕ) (session : ℕ) where
       → AreBatchesOn s image (slots ++ (half, slot) ∷ []) session more
   one_more slots half slot batches more b had spelled e = record {
     all = had.all ++ b ∷ [];
-    each = record { count = omega (arith, length_push had.all b, length_push slots (half, slot), had.each.count); each = λ i t c e f. elim (last_or_within slots (half, slot) t i e) [
-      | inl old ↦ elim (last_or_within had.all b c i f) [
-        | inl was ↦ had.each.each i t c old was
-        | inr at ↦ absurd (omega (arith, slice_get_within slots i t old, at.0, had.each.count))
-      ]
-      | inr new ↦ elim (last_or_within had.all b c i f) [
-        | inl was ↦ absurd (omega (arith, slice_get_within had.all i c was, new.0, had.each.count))
-        | inr at ↦ subst (λ (d : Batch K). SpellsBatch (page_of (places.slot_page s t.0 t.1) image) d) at.1 (subst (λ (u : ℕ × ℕ). SpellsBatch (page_of (places.slot_page s u.0 u.1) image) b) new.1 spelled)
-      ]
-    ] };
+    each = record {
+      count = omega (arith, length_push had.all b, length_push slots (half, slot), had.each.count);
+      each = λ i t c e f. elim (last_or_within slots (half, slot) t i e) [
+        | inl old ↦ elim (last_or_within had.all b c i f) [
+          | inl was ↦ had.each.each i t c old was
+          | inr at ↦ absurd (omega (arith, slice_get_within slots i t old, at.0, had.each.count))
+        ]
+        | inr new ↦ elim (last_or_within had.all b c i f) [
+          | inl was ↦ absurd (omega (arith, slice_get_within had.all i c was, new.0, had.each.count))
+          | inr at ↦ subst (λ (d : Batch K). SpellsBatch (page_of (places.slot_page s t.0 t.1) image) d) at.1 (subst (λ (u : ℕ × ℕ). SpellsBatch (page_of (places.slot_page s u.0 u.1) image) b) new.1 spelled)
+        ]
+      ];
+    };
     are = e ∙ ap (λ (bs : List (Batch K)). bs ++ of_session session (b ∷ [])) had.are ∙ sym (filter-append (λ (x : Batch K). x.session == session) had.all (b ∷ []));
   }
 

@@ -1,5 +1,5 @@
 -- The parts of a slot page, one behind the other.
-use Rattle.std.proofs.Common.{◌≡◌, ◌≤◌, ◌+◌, ◌-◌, ℕ, List, [], ◌∷◌, ◌++◌, length, refl, sym, ap, ◌∙◌, append_assoc, length-append, arith, replicate, codes}
+use Rattle.std.proofs.Common.{◌≡◌, ◌≤◌, ◌+◌, ◌-◌, ℕ, List, [], ◌∷◌, ◌++◌, length, refl, ap, ◌∙◌, append_assoc, length-append, arith, replicate, codes}
 use Rattle.std.proofs.lemmas.List.{replicate-append-replicate}
 use Rattle.grid_types.specs.declared.note.Noted.{Noted}
 use Rattle.page_fields.specs.Fields.{bytes_of}

@@ -1,7 +1,6 @@
 -- What each moment of a publication leaves: first the slot's page is written, then its gate is opened.
-use Rattle.std.proofs.Common.{◌≡◌, ◌≢◌, ◌<◌, ◌≤◌, ◌⊎◌, inl, inr, ◌+◌, ◌*◌, ℕ, List, [], ◌∷◌, slice_index, sym, ap, subst, ◌∙◌, arith}
+use Rattle.std.proofs.Common.{◌≡◌, ◌<◌, ◌≤◌, ◌⊎◌, inl, inr, ◌+◌, ◌*◌, ℕ, List, slice_index, sym, ◌∙◌, arith}
 use Rattle.grid_types.specs.declared.shape.Shape.{Shape}
-use Rattle.grid_types.specs.Pages.{page_of}
 use Rattle.grid_types.specs.Shapes.{is_shape, file_pages, slot_page, slot_gate_at}
 use Rattle.std.specs.Prelude.{IsTrue}
 use Rattle.grid_types.proofs.Places.{within-limits, gate-off-slots, gate-page-lies}
@@ -10,7 +9,6 @@ use Rattle.disk_trait.specs.Moments.{After, Always, AgreesOutside}
 use Rattle.disk_trait.proofs.Pages.{page_apart, byte_apart}
 use Rattle.disk_trait.proofs.Ranges.{outside_one, outside_more, outside_then}
 use Rattle.grid_model.specs.Spellings.{Batch}
-use Rattle.grid_model.specs.Images.{SpellsBatch}
 use Rattle.journal_slots.specs.Publishing.{IsClosed, HasBatch, IsWhole, slot_ranges}
 
 -- the page of a slot changes, or its gate does

@@ -18,7 +18,7 @@ use Rattle.grid_model.specs.Spellings.{Batch, update_code, note_code, note_attri
 use Rattle.grid_model.specs.Lawful.{IsNotedUpdate, StandsWith, IsBatch}
 use Rattle.journal_slots.specs.Spelling.{head}
 use Rattle.journal_slots.specs.Reading.{NoteAt, ChangeAt, NotedAt, UpdatesAt, BatchAt}
-use Rattle.journal_slots.proofs.Parts.{fields_of, update_is, head_is}
+use Rattle.journal_slots.proofs.Parts.{update_is, head_is}
 
 length_key : (K : ℕ) (xs : List ℕ) → K ≤ 4 → IsKey K xs → length (padded 32 (numbers xs)) ≡ 32
 length_key K xs few fits = length-padded 32 (numbers xs) (omega (arith, length-numbers xs, fits.count))

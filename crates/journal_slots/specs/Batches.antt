@@ -1,5 +1,5 @@
 -- A batch in memory as the model sees it.
-use Rattle.std.specs.Prelude.{ℕ, List, map}
+use Rattle.std.specs.Prelude.{ℕ}
 use Rattle.grid_model.specs.Spellings as model
 use Rattle.journal_slots.specs.declared.batch.Batch.{Batch}
 

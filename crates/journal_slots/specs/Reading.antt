@@ -67,21 +67,21 @@ pub record BatchAt (K : ℕ) (page : List ℕ) (b : Batch K) : Type 0 where
   pub updates : UpdatesAt K page b.updates
 
 -- a note fits its update: cuts of one of the K attributes stand with puts, merges with removes
-abbrev pub Fits : {K : ℕ} → Update K → NoteOf → Type 0
-Fits (Put r) note.Plain = ⊤
-Fits {K} (Put r) (note.Cut c right) = c.attribute < K
-Fits (Put r) (note.Merge m) = ⊥
-Fits (Remove k) note.Plain = ⊤
-Fits (Remove k) (note.Cut c right) = ⊥
-Fits (Remove k) (note.Merge m) = ⊤
+abbrev pub NoteFits : {K : ℕ} → Update K → NoteOf → Type 0
+NoteFits (Put r) note.Plain = ⊤
+NoteFits {K} (Put r) (note.Cut c right) = c.attribute < K
+NoteFits (Put r) (note.Merge m) = ⊥
+NoteFits (Remove k) note.Plain = ⊤
+NoteFits (Remove k) (note.Cut c right) = ⊥
+NoteFits (Remove k) (note.Merge m) = ⊤
 
 -- each note fits its update
-abbrev pub AllFit : {K : ℕ} → List (Noted K) → Type 0
-AllFit {K} us = (i : ℕ) (d : Noted K) → i < length us → Fits (get_or us i d).update (get_or us i d).note
+abbrev pub AllNotesFit : {K : ℕ} → List (Noted K) → Type 0
+AllNotesFit {K} us = (i : ℕ) (d : Noted K) → i < length us → NoteFits (get_or us i d).update (get_or us i d).note
 
 -- the fields of a batch are lawful, beside the ranges of their types: it has an update, its place is in its limits, and each note fits
 pub record IsLawful {K : ℕ} (b : Batch K) : Type 0 where
   pub some : 1 ≤ length b.updates
   pub first : 1 ≤ b.first
   pub last : b.first ≤ 9223372036854775792
-  pub notes : AllFit b.updates
+  pub notes : AllNotesFit b.updates

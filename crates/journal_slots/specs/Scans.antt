@@ -1,11 +1,10 @@
 -- What a scan of a half of the journal finds.
-use Rattle.std.specs.Prelude.{◌≡◌, ◌⊎◌, ◌<◌, ◌==◌, ◌++◌, ◌∷◌, [], ℕ, List, length, map, filter, slice_index}
+use Rattle.std.specs.Prelude.{◌≡◌, ◌⊎◌, ◌<◌, ◌==◌, ◌++◌, ◌∷◌, [], ℕ, List, length, slice_index}
 use Rattle.grid_types.specs.declared.shape.Shape.{Shape}
 use Rattle.grid_types.specs.declared.refusal.Refusal.{Refusal}
 use Rattle.grid_types.specs.declared.refusal.Refusal.TheVariants as refusal
 use Rattle.grid_types.specs.Pages.{page_of}
 use Rattle.grid_types.specs.Shapes as places
-use Rattle.grid_model.specs.Lists.{below}
 use Rattle.grid_model.specs.Spellings.{Batch, gate_page}
 use Rattle.grid_model.specs.Images.{SpellsBatch, HasBatches, slots_where, of_session}
 

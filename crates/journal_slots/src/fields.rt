@@ -38,13 +38,7 @@ pub fn code(note: &NoteOf) -> u8
 {
     match note {
         NoteOf::Plain => 0,
-        NoteOf::Cut { cut, .. } => {
-            if cut.fresh {
-                2
-            } else {
-                1
-            }
-        }
+        NoteOf::Cut { cut, .. } => { if cut.fresh { 2 } else { 1 } }
         NoteOf::Merge { .. } => 3,
     }
 }

@@ -1,7 +1,7 @@
 //! Whether the fields of a batch are lawful.
 ghost use Rattle.std.specs.Prelude.{◌↔◌, IsTrue};
 ghost use Rattle.journal_slots.specs.Batches.{batch_of};
-ghost use Rattle.journal_slots.specs.Reading.{Fits, AllFit, IsLawful};
+ghost use Rattle.journal_slots.specs.Reading.{NoteFits, AllNotesFit, IsLawful};
 
 use crate::Batch;
 use grid_types::{NoteOf, Noted, Update};
@@ -10,7 +10,7 @@ use grid_types::{NoteOf, Noted, Update};
 const LAST: u64 = 9_223_372_036_854_775_792;
 
 fn fits<const K: usize>(noted: &Noted<K>) -> bool
-    ensures { IsTrue result ↔ Fits noted.now.update noted.now.note }
+    ensures { IsTrue result ↔ NoteFits noted.now.update noted.now.note }
 {
     match &noted.update {
         Update::Put(_) => match &noted.note {
@@ -27,7 +27,7 @@ fn fits<const K: usize>(noted: &Noted<K>) -> bool
 }
 
 fn all_fit<const K: usize>(updates: &[Noted<K>]) -> bool
-    ensures { IsTrue result ↔ AllFit updates.now }
+    ensures { IsTrue result ↔ AllNotesFit updates.now }
 {
     for noted in updates {
         if !fits(noted) {

@@ -23,3 +23,6 @@ pub use reading::decode;
 pub use scanning::scan_half;
 pub use sections::{clear_half, open_gate, write_batch};
 pub use writing::encode;
+
+#[cfg(test)]
+mod tests;

@@ -139,14 +139,14 @@ pub fn scan_half<const K: usize, D: Disk, L: Ledger>(
     ensures writes { D.write_count disk.old ≤ D.write_count disk.new }
 {
     let mut bytes = [0; 4096];
-    let page = layout.gate_page(half);
-    match read_page(disk, page, &mut bytes, steps) {
+    let gate_page = layout.gate_page(half);
+    match read_page(disk, gate_page, &mut bytes, steps) {
         Ok(()) => {}
         Err(why) => return Err(why),
     }
     let slots = slots_of(layout);
     if !are_gates(&bytes, half, slots) {
-        return Err(Refusal::Damaged { page });
+        return Err(Refusal::Damaged { page: gate_page });
     }
     let mut found = Batches::new(alloc);
     let gates = &bytes[96..96 + slots as usize];

@@ -18,7 +18,12 @@ fn put_update<const K: usize>(page: &mut [u8; 4096], at: usize, noted: &Noted<K>
 {
     let note = &noted.note;
     let data = bytes(&noted.update);
-    let kinds = [kind(&noted.update), code(note), attribute(note), data.len() as u8];
+    let kinds = [
+        kind(&noted.update),
+        code(note),
+        attribute(note),
+        data.len() as u8,
+    ];
     put_bytes(page, at, &kinds);
     set_u32(page, at + 4, bucket(note));
     set_u64(page, at + 8, boundary(note));

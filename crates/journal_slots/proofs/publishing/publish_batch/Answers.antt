@@ -1,13 +1,13 @@
-use Rattle.std.proofs.Common.{◌≡◌, ◌≤◌, ◌<◌, ◌*◌, ◌+◌, ◌∷◌, [], ◌∙◌, ℕ, List, sym, ap, subst, arith, length}
+use Rattle.std.proofs.Common.{◌≤◌, ◌∷◌, [], ◌∙◌, ℕ, List, sym, subst, arith, length}
 use Rattle.std.proofs.lemmas.Result.{on_ok_weaker}
-use Rattle.grid_types.specs.Shapes.{slot_gate_at, file_pages}
+use Rattle.grid_types.specs.Shapes.{slot_gate_at}
 use Rattle.disk_trait.specs.Disk.{Holds}
 use Rattle.disk_trait.specs.Moments.{After}
 use Rattle.disk_trait.proofs.Moments.{joined, weakened}
 use Rattle.disk_trait.proofs.Pages.{byte_written}
 use Rattle.journal_slots.specs.Batches.{batch_of}
 use Rattle.journal_slots.specs.Publishing.{HasBatch, IsPublished}
-use Rattle.journal_slots.proofs.Stages.{PageStep, GateStep, batch_stays, gate_inside, writing, opening, writing_elsewhere, opening_elsewhere, page_elsewhere, gate_elsewhere}
+use Rattle.journal_slots.proofs.Stages.{PageStep, batch_stays, gate_inside, writing, opening, writing_elsewhere, opening_elsewhere, page_elsewhere, gate_elsewhere}
 use Rattle.journal_slots.proofs.publishing.publish_batch.Goals as goal
 
 pub returns-in-Err-clause-whole : goal.returns-in-Err-clause-whole

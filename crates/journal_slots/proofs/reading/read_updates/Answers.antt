@@ -1,4 +1,4 @@
-use Rattle.std.proofs.Common.{◌≡◌, ◌+◌, ◌*◌, ◌<◌, ℕ, List, [], ◌∷◌, ◌++◌, length, get_or, arith, subst, sym}
+use Rattle.std.proofs.Common.{◌+◌, ◌*◌, ◌<◌, ℕ, List, [], ◌∷◌, length, get_or, arith, subst, sym}
 use Rattle.grid_types.specs.declared.note.Noted.{Noted}
 use Rattle.page_fields.proofs.Steps.{push_each}
 use Rattle.journal_slots.specs.Reading.{NotedAt, UpdatesAt}

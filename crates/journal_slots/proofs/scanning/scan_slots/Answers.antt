@@ -1,9 +1,8 @@
-use Rattle.std.proofs.Common.{◌≡◌, ◌≤◌, ◌<◌, ◌+◌, ◌*◌, ℕ, List, length, slice_index, sym, ap, subst, ◌∙◌, arith}
+use Rattle.std.proofs.Common.{◌≡◌, ◌+◌, ℕ, List, length, slice_index, sym, ap, subst, ◌∙◌, arith}
 use Rattle.grid_types.specs.Pages.{page_of}
-use Rattle.grid_types.specs.Shapes.{slot_page}
 use Rattle.disk_trait.proofs.Moments.{joined}
 use Rattle.journal_slots.specs.Scans.{AreBatchesOn, SpellsSome}
-use Rattle.journal_slots.proofs.OpenSlots.{open_below, open_count, open_same, open_few, found_more, before_more, before_same}
+use Rattle.journal_slots.proofs.OpenSlots.{open_count, open_same, open_few, found_more, before_more, before_same}
 use Rattle.journal_slots.proofs.scanning.scan_slots.Goals as goal
 
 pub loop-slot-preserved-then-gates-slot-ne1 : goal.loop-slot-preserved-then-gates-slot-ne1

@@ -1,4 +1,4 @@
-use Rattle.std.proofs.Common.{◌≡◌, ◌≤◌, ℕ, List, arith, replicate, take, subst}
+use Rattle.std.proofs.Common.{◌≡◌, ℕ, List, arith, replicate, take, subst}
 use Rattle.std.proofs.lemmas.Result.{on_ok_weaker}
 use Rattle.std.proofs.lemmas.List.{take-replicate}
 use Rattle.grid_types.specs.Shapes.{slot_gate_at}

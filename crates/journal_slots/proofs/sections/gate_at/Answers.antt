@@ -1,4 +1,4 @@
-use Rattle.std.proofs.Common.{◌≡◌, ◌+◌, ◌*◌, ◌%◌, ◌/◌, arith}
+use Rattle.std.proofs.Common.{arith}
 use Rattle.grid_types.specs.Shapes.{slot_gate_at}
 use Rattle.grid_types.proofs.Places.{within-limits}
 use Rattle.journal_slots.proofs.sections.gate_at.Goals as goal

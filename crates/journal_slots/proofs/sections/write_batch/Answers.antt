@@ -1,7 +1,6 @@
-use Rattle.std.proofs.Common.{◌≡◌, ◌≤◌, ◌*◌, ◌∙◌, ℕ, sym, ap, arith, length}
+use Rattle.std.proofs.Common.{◌≤◌, ◌*◌, ◌∙◌, ℕ, sym, ap, arith, length}
 use Rattle.std.proofs.lemmas.Result.{on_ok_weaker}
 use Rattle.grid_types.specs.Pages.{page_of}
-use Rattle.grid_types.specs.Shapes.{slot_page}
 use Rattle.disk_trait.specs.Disk.{Holds}
 use Rattle.disk_trait.proofs.Pages.{page_written}
 use Rattle.journal_slots.specs.Batches.{batch_of}

@@ -1,9 +1,9 @@
-use Rattle.std.proofs.Common.{◌≡◌, ◌≤◌, ◌∙◌, ◌+◌, ◌-◌, ap, sym, take, drop, length, replicate, ℕ, List, [], ◌∷◌, ◌++◌, arith, length-append, refl}
+use Rattle.std.proofs.Common.{◌≡◌, ◌∙◌, ◌+◌, ◌-◌, ap, take, length, replicate, ℕ, List, [], ◌∷◌, ◌++◌, arith, length-append, refl}
 use Rattle.std.proofs.lemmas.List.{length-take-le}
 use Rattle.page_fields.specs.Fields.{bytes_of}
 use Rattle.page_fields.specs.Padded.{padded, numbers}
 use Rattle.grid_model.specs.Notes.{key_of}
-use Rattle.grid_model.specs.Spellings.{update_code, note_code, note_attribute, note_bucket, note_boundary, data_of}
+use Rattle.grid_model.specs.Spellings.{update_code, note_code, note_attribute, note_bucket, note_boundary}
 use Rattle.journal_slots.proofs.Parts.{update_written}
 use Rattle.journal_slots.proofs.writing.put_update.Goals as goal
 
