@@ -68,10 +68,6 @@ open_few gates half n =
     omega (arith, length-map (filter test (below n)) pair, length-filter test (below n), count_by-le-length test (below n), length-range_with_len 0 n)
 
 module _ {K : ℕ} (s : Shape) (image : List ℕ) (session : ℕ) where
-  -- no slot, no batch
-  pub none_yet : (batches : List (Batch K)) → batches ≡ [] → AreBatchesOn s image [] session batches
-  none_yet batches e = record { all = []; each = record { count = refl; each = λ i slot b e f. absurd (omega (arith, slice_get_within {A = ℕ × ℕ} [] i slot e)) }; are = e }
-
   -- a slot more, and the batch that its page spells
   pub one_more : (slots : List (ℕ × ℕ)) (half slot : ℕ) (batches more : List (Batch K)) (b : Batch K) → AreBatchesOn s image slots session batches → SpellsBatch (page_of (places.slot_page s half slot) image) b → more ≡ batches ++ of_session session (b ∷ [])
       → AreBatchesOn s image (slots ++ (half, slot) ∷ []) session more

@@ -47,9 +47,6 @@ record FieldsAt (K : ℕ) (page : List ℕ) (at : ℕ) (u : Noted K) : Type 0 wh
   key : CornerAt K page (at + 16) (key_of u.update)
   value : data_of u.update ≡ take (slice_index page (at + 3)) (drop (at + 48) page)
 
-next : (at k : ℕ) (page : List ℕ) (x : ℕ) (r : List ℕ) → drop (at + k) page ≡ x ∷ r → drop (at + k + 1) page ≡ r
-next at k page x r e = behind (at + k) 1 (at + k + 1) page (x ∷ []) r e refl refl
-
 fields_there : (K : ℕ) (page : List ℕ) (at : ℕ) (u : Noted K) (rest : List ℕ) → K ≤ 4 → IsNotedUpdate u → drop at page ≡ update_bytes u ++ rest → FieldsAt K page at u
 unfolding padded
 fields_there K page at u rest few fits e =

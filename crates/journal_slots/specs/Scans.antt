@@ -67,3 +67,23 @@ pub record IsMore {K : ℕ} (bytes : List ℕ) (session : ℕ) (before after : L
 -- a scan is refused for one of three reasons: a read failed, there is no memory, or a page is damaged
 abbrev pub IsRefusalOfScan : Refusal → Type 0
 IsRefusalOfScan e = (e ≡ refusal.ReadFault) ⊎ ((e ≡ refusal.NoMemory) ⊎ ((p : ℕ) × (e ≡ refusal.Damaged p)))
+
+-- a page spells a batch of a session
+pub record SpellsOf (K : ℕ) (bytes : List ℕ) (session : ℕ) : Type 0 where
+  pub batch : Batch K
+  pub spelled : SpellsBatch bytes batch
+  pub of : batch.session ≡ session
+
+-- an open slot has a batch of a session that is to be kept, and each open slot before it spells a batch
+pub record IsToKeep (K : ℕ) (s : Shape) (image : List ℕ) (half : ℕ) (gates : List ℕ) (session : ℕ) : Type 0 where
+  pub slot : ℕ
+  pub inside : slot < s.slots
+  pub opened : slice_index gates slot ≡ 1
+  pub spelled : SpellsOf K (page_of (places.slot_page s half slot) image) session
+  pub before : (i : ℕ) → i < slot → slice_index gates i ≡ 1 → SpellsSome K (page_of (places.slot_page s half i) image)
+
+-- a scan wants memory: the gate page of the half is spelled, and an open slot has a batch of the session that is to be kept
+pub record WantsMemory (K : ℕ) (s : Shape) (image : List ℕ) (half session : ℕ) : Type 0 where
+  pub gates : List ℕ
+  pub spelled : HasGatesOf s image half gates
+  pub kept : IsToKeep K s image half gates session

@@ -1,12 +1,12 @@
 //! The batches of a half of the journal.
 ghost use Rattle.std.specs.Prelude.{◌≡◌, ◌<◌, ◌≤◌, ◌+◌, ◌*◌, ◌++◌, ◌∷◌, [], ◌↔◌, List, ℕ, IsTrue, IfOk, IfErr, OnOk, IsErrOf, length};
-ghost use Rattle.grid_types.specs.declared.refusal.Refusal.TheVariants.{ReadFault, Damaged};
+ghost use Rattle.grid_types.specs.declared.refusal.Refusal.TheVariants.{ReadFault, Damaged, NoMemory};
 ghost use Rattle.grid_types.specs.Pages.{page_of};
 ghost use Rattle.grid_types.specs.Shapes.{is_shape, file_pages, slot_page};
 ghost use Rattle.disk_trait.specs.Causes.{Rose};
 ghost use Rattle.disk_trait.specs.Moments.{LeavesOnly};
 ghost use Rattle.grid_model.specs.Spellings as model;
-ghost use Rattle.journal_slots.specs.Scans.{HasGatesOf, AreBatchesOn, IsScan, SpellsSome, IsFirstBadSlot, IsFirstBad, IsRefusalOfScan, open_slots_of, IsMore};
+ghost use Rattle.journal_slots.specs.Scans.{HasGatesOf, AreBatchesOn, IsScan, SpellsSome, IsFirstBadSlot, IsFirstBad, IsRefusalOfScan, open_slots_of, IsMore, SpellsOf, IsToKeep, WantsMemory};
 
 use crate::pages::read_page;
 use crate::{Batches, are_gates, decode};
@@ -27,6 +27,7 @@ fn scan_slot<const K: usize, D: Disk, L: Ledger>(
     requires size { page * 4096 + 4096 ≤ D.extent disk.old }
     ensures found { IsTrue (D.honest disk.old) → OnOk result (IsMore (page_of page (D.seen disk.old)) session found.old found.new) }
     ensures damaged { IsTrue (D.honest disk.old) → (p : ℕ) → IsErrOf result (Damaged p) → (p ≡ page) × (SpellsSome K (page_of page (D.seen disk.old)) → ⊥) }
+    ensures no_memory { IsTrue (D.honest disk.old) → IsErrOf result NoMemory → SpellsOf K (page_of page (D.seen disk.old)) session }
     ensures read_fault { IsErrOf result ReadFault → Rose (D.read_count disk.old) (D.read_count disk.new) }
     ensures no_other { IfErr result IsRefusalOfScan }
     ensures ticks { steps.new ≡ steps.old + 1 }
@@ -73,6 +74,7 @@ fn scan_slots<const K: usize, D: Disk, L: Ledger>(
     requires empty { found.old ≡ [] }
     ensures found { IsTrue (D.honest disk.old) → OnOk result (AreBatchesOn layout.now.shape (D.seen disk.old) (open_slots_of gates.now half) session found.new) }
     ensures damaged { IsTrue (D.honest disk.old) → (p : ℕ) → IsErrOf result (Damaged p) → IsFirstBadSlot K layout.now.shape (D.seen disk.old) half gates.now p }
+    ensures no_memory { IsTrue (D.honest disk.old) → IsErrOf result NoMemory → IsToKeep K layout.now.shape (D.seen disk.old) half gates.now session }
     ensures read_fault { IsErrOf result ReadFault → Rose (D.read_count disk.old) (D.read_count disk.new) }
     ensures no_other { IfErr result IsRefusalOfScan }
     ensures ticks { steps.old ≤ steps.new }
@@ -125,6 +127,7 @@ pub fn scan_half<const K: usize, D: Disk, L: Ledger>(
     ensures found { IsTrue (D.honest disk.old) → IfOk result (IsScan layout.now.shape (D.seen disk.old) half session) }
     ensures only { IsTrue (D.honest disk.old) → IfOk result (λ bs. (cs : List (model.Batch K)) → IsScan layout.now.shape (D.seen disk.old) half session cs → bs ≡ cs) }
     ensures damaged { IsTrue (D.honest disk.old) → (p : ℕ) → IsErrOf result (Damaged p) → IsFirstBad K layout.now.shape (D.seen disk.old) half p }
+    ensures no_memory { IsTrue (D.honest disk.old) → IsErrOf result NoMemory → WantsMemory K layout.now.shape (D.seen disk.old) half session }
     ensures read_fault { IsErrOf result ReadFault → Rose (D.read_count disk.old) (D.read_count disk.new) }
     ensures no_other { IfErr result IsRefusalOfScan }
     ensures least { steps.old + 1 ≤ steps.new }

@@ -2,7 +2,7 @@ use Rattle.std.proofs.Common.{◌≡◌, ◌+◌, ◌-◌, ℕ, List, length, ta
 use Rattle.std.specs.Prelude.{Err, IsErrOf, Result}
 use Rattle.std.proofs.lemmas.Result.{IfErr-at_err}
 use Rattle.journal_slots.specs.Gates.{gates_in}
-use Rattle.journal_slots.specs.Scans.{AreBatchesOn, IsFirstBadSlot, open_slots_of}
+use Rattle.journal_slots.specs.Scans.{AreBatchesOn, IsFirstBadSlot, IsToKeep, open_slots_of}
 use Rattle.journal_slots.proofs.OneScan.{one_scan, the_gates, gates_read}
 use Rattle.journal_slots.proofs.scanning.scan_half.Goals as goal
 
@@ -55,3 +55,15 @@ returns-in-Err-scan_slots-clause-damaged g c = λ h p is.
       first = subst (λ (i : List ℕ). IsFirstBadSlot g.row.K s i c.args.half gates p) (c.in-Ok.ensures.seen h)
           (subst (λ (gs : List ℕ). IsFirstBadSlot g.row.K s (g.D.Disk.seen c.read_page.new.disk) c.args.half gs p) (part_is c.slots_of-slots.result out) (c.in-Err-scan_slots.ensures.damaged (c.in-Ok.ensures.honest ∙ h) p (same_error c.in-Err-scan_slots.why _ is)));
     })
+
+pub returns-in-Err-scan_slots-clause-no_memory : goal.returns-in-Err-scan_slots-clause-no_memory
+returns-in-Err-scan_slots-clause-no_memory g c = λ h is.
+    let s = c.args.layout.now.shape in
+    let out = c.read_page.new.out in
+    let gates = gates_in c.slots_of-slots.result out in
+    record {
+      gates = gates;
+      spelled = gates_read s (g.D.Disk.seen c.args.disk.now) c.args.half c.gate_page-gate_page.result c.slots_of-slots.result out (c.in-Ok.ensures.bytes h) c.gate_page-gate_page.ensures.value c.slots_of-slots.ensures.value c.slots_of-slots.ensures.few c.read_page.array_long (c.are_gates.ensures.gates c.if-not-are_gates.false);
+      kept = subst (λ (i : List ℕ). IsToKeep g.row.K s i c.args.half gates c.args.session) (c.in-Ok.ensures.seen h)
+          (subst (λ (gs : List ℕ). IsToKeep g.row.K s (g.D.Disk.seen c.read_page.new.disk) c.args.half gs c.args.session) (part_is c.slots_of-slots.result out) (c.in-Err-scan_slots.ensures.no_memory (c.in-Ok.ensures.honest ∙ h) (same_error c.in-Err-scan_slots.why _ is)));
+    }

@@ -1,7 +1,8 @@
 use Rattle.std.proofs.Common.{◌≡◌, ◌+◌, ℕ, List, length, slice_index, sym, ap, subst, ◌∙◌, arith}
 use Rattle.grid_types.specs.Pages.{page_of}
+use Rattle.grid_types.specs.Shapes.{slot_page}
 use Rattle.disk_trait.proofs.Moments.{joined}
-use Rattle.journal_slots.specs.Scans.{AreBatchesOn, SpellsSome}
+use Rattle.journal_slots.specs.Scans.{AreBatchesOn, SpellsSome, SpellsOf}
 use Rattle.journal_slots.proofs.OpenSlots.{open_count, open_same, open_few, found_more, before_more, before_same}
 use Rattle.journal_slots.proofs.scanning.scan_slots.Goals as goal
 
@@ -55,6 +56,19 @@ returns-in-Err-clause-damaged g c = λ h p is.
       opened = c.if-gates-slot-ne1.false;
       page_is = bad.0 ∙ c.slot_page-page.ensures.value;
       none = λ some. bad.1 (subst (λ (b : List ℕ). SpellsSome g.row.K b) (λ i. page_of (bad.0 i) (sym (was.seen h) i)) some);
+      before = was.before h;
+    }
+
+pub returns-in-Err-clause-no_memory : goal.returns-in-Err-clause-no_memory
+returns-in-Err-clause-no_memory g c = λ h is.
+    let was = c.loop-slot.invariant in
+    let bytes : page_of c.slot_page-page.result (g.D.Disk.seen c.loop-slot.disk) ≡ page_of (slot_page c.args.layout.now.shape c.args.half c.loop-slot.slot) (g.D.Disk.seen c.args.disk.now) =
+    λ i. page_of (c.slot_page-page.ensures.value i) (was.seen h i) in
+    record {
+      slot = c.loop-slot.slot;
+      inside = c.loop-slot-test.true;
+      opened = c.if-gates-slot-ne1.false;
+      spelled = subst (λ (b : List ℕ). SpellsOf g.row.K b c.args.session) bytes (c.in-Err.ensures.no_memory (was.honest ∙ h) is);
       before = was.before h;
     }
 
