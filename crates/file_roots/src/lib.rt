@@ -20,3 +20,6 @@ pub use parts::write_part;
 pub use reading::read_newest;
 pub use replacing::replace_root;
 pub use root::{NOWHERE, Root};
+
+#[cfg(test)]
+mod tests;
