@@ -14,4 +14,6 @@ pub mod Whole
 pub mod Verdicts
 pub mod Beginning
 pub mod Newest
+pub mod Cutting
+pub mod Unique
 pub mod Writing

@@ -11,7 +11,7 @@ use Rattle.grid_model.proofs.Counts.{count, count-absent}
 use Rattle.file_roots.specs.Gathering.{AreMarked, named_by}
 
 -- how often a number stands in two lists
-count_both : (n : ℕ) (xs ys : List ℕ) → count n (xs ++ ys) ≡ count n xs + count n ys
+pub count_both : (n : ℕ) (xs ys : List ℕ) → count n (xs ++ ys) ≡ count n xs + count n ys
 count_both n xs ys = ap length (filter-append (λ m. m == n) xs ys) ∙ length-append (filter (λ m. m == n) xs) (filter (λ m. m == n) ys)
 
 count_first : (n : ℕ) (ys : List ℕ) → 1 ≤ count n (n ∷ ys)

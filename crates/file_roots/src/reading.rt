@@ -2,8 +2,9 @@
 ghost use Rattle.std.specs.Prelude.{◌≡◌, ◌≢◌, ◌⊎◌, ◌↔◌, ◌<◌, ◌≤◌, ◌+◌, ◌*◌, ℕ, List, length, replicate, IsTrue, IfOk, OnOk, IfErr, IsErrOf};
 ghost use Rattle.grid_types.specs.declared.refusal.Refusal.TheVariants.{NoMemory, ReadFault, Damaged};
 ghost use Rattle.grid_types.specs.Shapes.{is_shape, area_pages, file_pages, header_page};
-ghost use Rattle.grid_model.specs.Lawful.{IsRootOn};
-ghost use Rattle.grid_model.specs.Images.{IsNewest};
+ghost use Rattle.grid_model.specs.Spellings as model;
+ghost use Rattle.grid_model.specs.Lawful.{IsRootOn, Area};
+ghost use Rattle.grid_model.specs.Images.{IsNewest, HasArea};
 ghost use Rattle.root_pages.specs.Fields as pages;
 ghost use Rattle.linear_scales.specs.Limited.{limits_of};
 ghost use Rattle.disk_trait.specs.Causes.{Rose};
@@ -151,6 +152,8 @@ pub fn read_newest<D: Disk, L: Ledger, const K: usize>(
     requires attributes { layout.now.shape.k ≡ K }
     requires size { file_pages layout.now.shape * 4096 ≤ D.extent disk.old }
     ensures found { IsTrue (D.honest disk.old) → IfOk result (λ r. IsWhole layout.now.shape (fields_of r) (area_of r) (D.seen disk.old)) }
+    ensures only { IsTrue (D.honest disk.old) → (r : model.RootFields) (a : Area) → IsNewest layout.now.shape (D.seen disk.old) r → HasArea layout.now.shape (D.seen disk.old) r a → IfOk result (λ root. (fields_of root ≡ r) × (area_of root ≡ a)) }
+    ensures undamaged { IsTrue (D.honest disk.old) → (r : model.RootFields) (a : Area) → IsNewest layout.now.shape (D.seen disk.old) r → HasArea layout.now.shape (D.seen disk.old) r a → (p : ℕ) → IsErrOf result (Damaged p) → ⊥ }
     ensures limits { IfOk result (λ r. limits_of r.scales ≡ replicate K layout.now.shape.boundaries) }
     ensures damaged { IsTrue (D.honest disk.old) → (p : ℕ) → IsErrOf result (Damaged p) → IsRootDamage layout.now.shape (D.seen disk.old) p }
     ensures read_fault { IsErrOf result ReadFault → Rose (D.read_count disk.old) (D.read_count disk.new) }

@@ -6,6 +6,7 @@ use Rattle.linear_scales.specs.Limited.{scales_of}
 use Rattle.file_roots.specs.Damage.{HasBadPart}
 use Rattle.file_roots.specs.Gathering.{HasGathered, area_in}
 use Rattle.file_roots.proofs.Whole.{whole}
+use Rattle.file_roots.proofs.Unique.{undamaged, only_whole}
 use Rattle.file_roots.proofs.Verdicts.{passed_on, fields_same, whole_root}
 use Rattle.file_roots.proofs.reading.read_newest.Goals as goal
 
@@ -35,3 +36,12 @@ returns-clause-found g c = λ h.
     let all = c.in-Ok-read_area.ensures.gathered told begun in
     let area = whole s seen r (area_in gathered) c.requires.lawful c.in-Ok.ensures.lawful (subst (λ image. HasGathered s image r (area_pages s) gathered) (c.in-Ok.ensures.seen h) all).area in
     whole_root s seen r _ (area_in gathered) (fields_same r (scales_of gathered.scales) gathered.parts gathered.table area.lawful.boundaries area.lawful.parts area.lawful.buckets) (c.in-Ok.ensures.found h) area
+
+pub returns-in-Err-clause-undamaged : goal.returns-in-Err-clause-undamaged
+returns-in-Err-clause-undamaged g c = λ h r a newest area p e. undamaged c.args.layout.now.shape (g.D.Disk.seen c.args.disk.now) c.requires.lawful r newest a area p (returns-in-Err-clause-damaged g c h p e)
+
+pub returns-in-Err-read_area-clause-undamaged : goal.returns-in-Err-read_area-clause-undamaged
+returns-in-Err-read_area-clause-undamaged g c = λ h r a newest area p e. undamaged c.args.layout.now.shape (g.D.Disk.seen c.args.disk.now) c.requires.lawful r newest a area p (returns-in-Err-read_area-clause-damaged g c h p e)
+
+pub returns-clause-only : goal.returns-clause-only
+returns-clause-only g c = λ h r a newest area. only_whole c.args.layout.now.shape (g.D.Disk.seen c.args.disk.now) r _ a _ c.requires.lawful newest area (returns-clause-found g c h)
