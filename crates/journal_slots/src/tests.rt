@@ -1,14 +1,14 @@
-ghost use Rattle.std.specs.Prelude.{◌≡◌, ◌<◌, ◌≤◌, ◌*◌, IsTrue, IfSome, length};
+ghost use Rattle.std.specs.Prelude.{◌≡◌, ◌<◌, ◌≤◌, ◌*◌, IsTrue, IfSome, IfOk, length};
 ghost use Rattle.arrayvec.specs.ArrayVec.{array_vec_len};
 ghost use Rattle.grid_types.specs.Shapes.{is_shape, file_pages};
 ghost use Rattle.disk_memory.specs.Memories.{extent_of};
 
 use super::*;
 use arrayvec::ArrayVec;
-use disk_memory::Memory;
+use disk_memory::{Fused, Keep, Memory};
 use disk_trait::{Disk, Steps};
 use grid_types::{Cut, Data, Key, Layout, NoteOf, Noted, Record, Refusal, Shape, Update};
-use std::alloc::Global;
+use std::alloc::{AllocError, Global};
 use std::marker::Brand;
 use std::sync::ledger::{Blank, Ledger};
 use std::test::*;
@@ -129,11 +129,11 @@ fn small() -> Option<Layout>
 }
 
 /// Publishes that batch for a session, on a slot of half 1.
-fn publish(disk: &mut Memory, layout: &Layout, slot: u32, session: u64) -> bool
+fn publish<D: Disk>(disk: &mut D, layout: &Layout, slot: u32, session: u64) -> bool
     requires lawful { IsTrue (is_shape layout.now.shape) }
-    requires size { file_pages layout.now.shape * 4096 ≤ extent_of disk.old }
+    requires size { file_pages layout.now.shape * 4096 ≤ D.extent disk.old }
     requires inside { slot < layout.now.shape.slots }
-    ensures { extent_of disk.new ≡ extent_of disk.old }
+    ensures { D.extent disk.new ≡ D.extent disk.old }
 {
     let Some(batch) = of_each_kind(session) else {
         return false;
@@ -221,5 +221,77 @@ fn a_scan_finds_its_session(rt: HostRuntime) -> Result<(), Fail> {
     assert!(rt; is_damaged(scan(rt.alloc(), &mut disk, &layout, 7), 29));
     assert!(rt; clear_half(&mut disk, &layout, 1, 3).is_ok());
     assert!(rt; !is_one(scan(rt.alloc(), &mut disk, &layout, 5), 5));
+    Ok(())
+}
+
+/// How many batches of session 7 a scan finds, where nothing is damaged.
+fn found(alloc: Global, disk: &mut Memory, layout: &Layout) -> Option<usize>
+    requires lawful { IsTrue (is_shape layout.now.shape) }
+    requires size { file_pages layout.now.shape * 4096 ≤ extent_of disk.old }
+{
+    match scan(alloc, disk, layout, 7) {
+        Ok(batches) => Some(batches.list().len()),
+        Err(_) => None,
+    }
+}
+
+/// A file whose gates are closed.
+fn closed(alloc: Global, layout: &Layout) -> Result<Memory, AllocError>
+    requires lawful { IsTrue (is_shape layout.now.shape) }
+    ensures size { IfOk result (λ m. extent_of m ≡ file_pages layout.now.shape * 4096) }
+{
+    let mut disk = Memory::new(alloc, layout.shape.file_pages())?;
+    let _ = close_all(&mut disk, layout);
+    let _ = disk.sync();
+    Ok(disk)
+}
+
+/// Whether a batch whose publication is cut off after so many calls is found whole or not at all, and found where it was
+/// answered.
+fn is_whole_or_not(
+    alloc: Global,
+    layout: &Layout,
+    calls: u64,
+    keep: Keep,
+) -> Result<bool, AllocError>
+    requires lawful { IsTrue (is_shape layout.now.shape) }
+    requires slots { layout.now.shape.slots ≡ 3 }
+{
+    let mut disk = Fused::new(closed(alloc, layout)?, calls);
+    let answered = publish(&mut disk, layout, 1, 7);
+    let mut image = disk.image(keep)?;
+    let found = found(alloc, &mut image, layout);
+    Ok(found == Some(1) || (!answered && found == Some(0)))
+}
+
+/// Whether a clearing of two batches that is cut off after so many calls leaves whole batches, and none where it was
+/// answered.
+fn is_cleared_or_not(
+    alloc: Global,
+    layout: &Layout,
+    calls: u64,
+    keep: Keep,
+) -> Result<bool, AllocError>
+    requires lawful { IsTrue (is_shape layout.now.shape) }
+    requires slots { layout.now.shape.slots ≡ 3 }
+{
+    let mut disk = closed(alloc, layout)?;
+    let published = publish(&mut disk, layout, 0, 7) && publish(&mut disk, layout, 1, 7);
+    let mut disk = Fused::new(disk, calls);
+    let answered = clear_half(&mut disk, layout, 1, 2).is_ok();
+    let mut image = disk.image(keep)?;
+    let found = found(alloc, &mut image, layout);
+    Ok(published && (found == Some(0) || (!answered && found.is_some())))
+}
+
+#[test]
+fn a_crash_leaves_whole_batches(rt: HostRuntime) -> Result<(), Fail> {
+    let layout = small().ok_or("the shape is lawful")?;
+    for calls in 0..6 {
+        for keep in [Keep::All, Keep::None, Keep::Changed] {
+            assert!(rt; is_whole_or_not(rt.alloc(), &layout, calls, keep)?);
+            assert!(rt; is_cleared_or_not(rt.alloc(), &layout, calls, keep)?);
+        }
+    }
     Ok(())
 }
