@@ -1,11 +1,11 @@
 -- A page whose fields are those of a gate page is the spelling of the gates that it has.
-use Rattle.std.proofs.Common.{◌≡◌, ◌≤◌, ◌<◌, ◌+◌, ◌-◌, ℕ, zero, suc, List, [], ◌∷◌, ◌++◌, length, take, drop, get_or, replicate, codes, refl, sym, ap, ◌∙◌, append_assoc, length-append, arith}
-use Rattle.std.proofs.lemmas.List.{drop-drop, take-append-drop, take-replicate, drop_all, append-nil, take_at, length-take-le, length-drop, get_or-drop, get_or_append_left, get_or-replicate, length-replicate}
+use Rattle.std.proofs.Common.{◌≡◌, ◌≤◌, ◌<◌, ◌+◌, ◌-◌, ℕ, zero, suc, List, [], ◌∷◌, ◌++◌, length, take, drop, replicate, codes, refl, sym, ap, ◌∙◌, append_assoc, length-append, arith}
+use Rattle.std.proofs.lemmas.List.{drop-drop, take-append-drop, drop_all, append-nil, take_at, length-take-le, length-drop}
 use Rattle.page_fields.specs.Fields.{bytes_of, AreZeros}
 use Rattle.page_fields.specs.Padded.{padded}
 use Rattle.page_fields.proofs.BytesOf.{length-bytes_of}
 use Rattle.page_fields.proofs.Places.{behind}
-use Rattle.page_fields.proofs.ZeroParts.{zeros_same}
+use Rattle.page_fields.proofs.ZeroParts.{zeros_are, zeros_spelled}
 use Rattle.grid_model.specs.Spellings.{page, gate_page}
 use Rattle.journal_slots.specs.Gates.{gates_in, IsGateHead}
 use Rattle.journal_slots.proofs.Parts.{filled}
@@ -30,25 +30,6 @@ unfolding bytes_of
 half_bytes zero two = refl
 half_bytes (suc zero) two = refl
 half_bytes (suc (suc half)) two = absurd (omega (arith, two))
-
--- a part of a page that is zeros
-zeros_are : (from to : ℕ) (bytes : List ℕ) → from ≤ to → to ≤ length bytes → AreZeros from to bytes → drop from bytes ≡ replicate (to - from) 0 ++ drop to bytes
-zeros_are from to bytes le low zeros =
-    let n = to - from in
-    let same : take n (drop from bytes) ≡ replicate n 0 = zeros_same from to (length bytes) bytes le low refl zeros ∙ take-replicate n (length bytes) 0 (omega arith) in
-    sym (take-append-drop n (drop from bytes))
-    ∙ ap (λ (z : List ℕ). z ++ drop n (drop from bytes)) same
-    ∙ ap (λ (r : List ℕ). replicate n 0 ++ r) (drop-drop n from bytes ∙ ap (λ (k : ℕ). drop k bytes) (omega arith))
-
-zeros_at : (from to n : ℕ) (bytes r : List ℕ) → drop from bytes ≡ replicate n 0 ++ r → from + n ≡ to → AreZeros from to bytes
-zeros_at from to n bytes r e is i low high =
-    let k = i - from in
-    let there : from + k ≡ i = omega arith in
-    ap (λ (j : ℕ). get_or bytes j 0) (sym there)
-    ∙ sym (get_or-drop from bytes k 0)
-    ∙ ap (λ (xs : List ℕ). get_or xs k 0) e
-    ∙ get_or_append_left (replicate n 0) r 0 k (omega (arith, length-replicate {A = ℕ} n 0))
-    ∙ get_or-replicate n k 0 0 (omega arith)
 
 -- a page with that head, and zeros behind so many gates, is the gate page of its gates
 pub gates_joined : (half slots : ℕ) (bytes : List ℕ) → half < 2 → slots ≤ 4000 → length bytes ≡ 4096 → IsGateHead half bytes → AreZeros (96 + slots) 4096 bytes → bytes ≡ gate_page half (gates_in slots bytes)
@@ -86,14 +67,14 @@ module _ (half : ℕ) (gates bytes : List ℕ) (e : bytes ≡ gate_page half gat
       let split : bytes ≡ (codes "GFG1" ++ bytes_of 4 half) ++ (replicate 88 0 ++ padded 4000 gates) = at0 ∙ sym (append_assoc (codes "GFG1") (bytes_of 4 half) (replicate 88 0 ++ padded 4000 gates)) in
       record {
         front = ap (take 8) split ∙ take_at (codes "GFG1" ++ bytes_of 4 half) (replicate 88 0 ++ padded 4000 gates) 8 (omega (arith, length-bytes_of 4 half)) ∙ ap (λ (b : List ℕ). codes "GFG1" ++ b) (half_bytes half two);
-        rest = zeros_at 8 96 88 bytes (padded 4000 gates) at8 refl;
+        rest = zeros_spelled 8 96 88 bytes (padded 4000 gates) at8 (omega arith);
       }
 
   pub zeros_there : length gates ≤ 4000 → AreZeros (96 + length gates) 4096 bytes
   unfolding padded
   zeros_there few =
       let end : drop (96 + length gates) bytes ≡ replicate (4000 - length gates) 0 = behind 96 (length gates) (96 + length gates) bytes gates (replicate (4000 - length gates) 0) at96 refl refl in
-      zeros_at (96 + length gates) 4096 (4000 - length gates) bytes [] (end ∙ sym (append-nil (replicate (4000 - length gates) 0))) (omega (arith, few))
+      zeros_spelled (96 + length gates) 4096 (4000 - length gates) bytes [] (end ∙ sym (append-nil (replicate (4000 - length gates) 0))) (omega (arith, few))
 
   -- the gates in the page are those that it spells
   pub gates_there : gates ≡ gates_in (length gates) bytes
