@@ -4,7 +4,7 @@ ghost use Rattle.disk_memory.specs.Memories.{extent_of};
 ghost use Rattle.file_roots.specs.Roots.{IsRoot};
 
 use super::*;
-use disk_memory::Memory;
+use disk_memory::{Fused, Keep, Memory};
 use disk_trait::{Disk, Steps};
 use grid_types::{Layout, Refusal, Shape};
 use root_pages::{RootFields, encode_fields, encode_list, encode_scale, encode_table};
@@ -294,5 +294,70 @@ fn takes_turns<L: Ledger>(alloc: Global, blank: Blank) -> Result<bool, AllocErro
 fn roots_take_turns_and_damage_is_named(rt: HostRuntime) -> Result<(), Fail> {
     area_law();
     assert!(rt; takes_turns::<Brand>(rt.alloc(), Blank::new(1))?);
+    Ok(())
+}
+
+/// A file with root 0, all of it on the disk.
+fn with_root(alloc: Global) -> Result<Memory, AllocError>
+    ensures size { IfOk result (λ m. extent_of m ≡ 34 * 4096) }
+{
+    let mut disk = Memory::new(alloc, 34)?;
+    let _ = put_root(&mut disk);
+    let _ = put_header(&mut disk);
+    let _ = disk.sync();
+    Ok(disk)
+}
+
+/// Whether root 1, whose writing is cut off after so many calls, is the newest, or root 0 is where it was not answered.
+fn is_old_or_new<L: Ledger>(
+    alloc: Global,
+    layout: &Layout,
+    calls: u64,
+    keep: Keep,
+    steps: &mut Steps<L>,
+) -> Result<bool, AllocError>
+    requires lawful { IsTrue (is_shape layout.now.shape) }
+    requires attributes { layout.now.shape.k ≡ ATTRIBUTES }
+    requires pages { file_pages layout.now.shape ≡ 34 }
+{
+    let mut disk = with_root(alloc)?;
+    let root = match newest(alloc, &mut disk, layout, steps) {
+        Ok(root) => root,
+        Err(_) => return Ok(false),
+    };
+    if root.number >= 1000 {
+        return Ok(false);
+    }
+    if root.session >= 1000 {
+        return Ok(false);
+    }
+    let root = next(root, layout);
+    let mut disk = Fused::new(disk, calls);
+    let answered = replace_root(&mut disk, layout, &root, steps).is_ok();
+    let mut image = disk.image(keep)?;
+    let told = verdict(alloc, &mut image, layout, steps);
+    Ok(told == 1 || (!answered && told == 0))
+}
+
+/// Whether that holds at each call, whatever becomes of what is not on the disk.
+fn leaves_a_root<L: Ledger>(alloc: Global, blank: Blank) -> Result<bool, AllocError>
+    requires name { blank.name ≡ L.name }
+    requires parts { blank.parts ≡ L.parts }
+    requires some { 0 < L.parts }
+{
+    let layout = small();
+    let mut steps = Steps::<L>::new(blank);
+    let mut all = true;
+    for calls in 0..18 {
+        all &= is_old_or_new(alloc, &layout, calls, Keep::All, &mut steps)?;
+        all &= is_old_or_new(alloc, &layout, calls, Keep::None, &mut steps)?;
+        all &= is_old_or_new(alloc, &layout, calls, Keep::Changed, &mut steps)?;
+    }
+    Ok(all)
+}
+
+#[test]
+fn a_crash_leaves_the_old_root_or_the_new(rt: HostRuntime) -> Result<(), Fail> {
+    assert!(rt; leaves_a_root::<Brand>(rt.alloc(), Blank::new(1))?);
     Ok(())
 }
