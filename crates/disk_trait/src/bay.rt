@@ -16,6 +16,7 @@ pub struct BayFailed;
 /// Its count of failures never falls. It rises at each failure but one: that a bay which tells its names has to make a
 /// name that is there, or to open one that is absent.
 pub trait Bay {
+    /// The disks that it hands out.
     type Disk: Disk + Send;
 
     /// Whether the bay tells its names, and which disk lies under each.

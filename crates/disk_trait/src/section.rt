@@ -1,10 +1,41 @@
-//! A write that is on the disk when it is done.
-ghost use Rattle.std.specs.Prelude.{◌≡◌, ◌≤◌, List, ℕ, IsTrue, length, OnOk};
-ghost use Rattle.disk_trait.specs.Causes.{HasCause};
+//! A page that is read, and a write that is on the disk when it is done.
+ghost use Rattle.std.specs.Prelude.{◌≡◌, ◌≤◌, ◌+◌, ◌*◌, ◌↔◌, List, ℕ, IsTrue, length, OnOk, IfErr, IsErrOf};
+ghost use Rattle.grid_types.specs.declared.refusal.Refusal.TheVariants.{ReadFault};
+ghost use Rattle.grid_types.specs.Pages.{page_of};
+ghost use Rattle.disk_trait.specs.Causes.{HasCause, Rose};
 ghost use Rattle.disk_trait.specs.Disk.{Only, Follows, Agrees, Holds, InOnePage};
 ghost use Rattle.disk_trait.specs.Moments.{After, LeavesOnly};
 
-use crate::{Disk, DiskFailed};
+use crate::{Disk, DiskFailed, Steps};
+use grid_types::Refusal;
+use std::sync::ledger::Ledger;
+
+/// Reads a page, as one step. At each moment of it a crash leaves what it might have left before. After a failure `out`
+/// holds anything.
+pub fn read_page<D: Disk, L: Ledger>(
+    disk: &mut D,
+    page: u64,
+    out: &mut [u8; 4096],
+    steps: &mut Steps<L>,
+) -> Result<(), Refusal>
+    requires { page * 4096 + 4096 ≤ D.extent disk.old }
+    ensures ticks { steps.new ≡ steps.old + 1 }
+    ensures bytes { IsTrue (D.honest disk.old) → OnOk result (out.new ≡ page_of page (D.seen disk.old)) }
+    ensures seen { IsTrue (D.honest disk.old) → D.seen disk.new ≡ D.seen disk.old }
+    ensures crash { IsTrue (D.honest disk.old) → (c : List ℕ) → D.may_leave disk.new c ↔ D.may_leave disk.old c }
+    ensures moments { IsTrue (D.honest disk.old) → LeavesOnly D.moment D.left_since disk.old disk.new (D.may_leave disk.old) }
+    ensures extent { D.extent disk.new ≡ D.extent disk.old }
+    ensures honest { D.honest disk.new ≡ D.honest disk.old }
+    ensures read_fault { IsErrOf result ReadFault → Rose (D.read_count disk.old) (D.read_count disk.new) }
+    ensures no_other { IfErr result (λ e. e ≡ ReadFault) }
+    ensures reads { D.read_count disk.old ≤ D.read_count disk.new }
+    ensures writes { D.write_count disk.old ≤ D.write_count disk.new }
+{
+    match disk.read(page, out, steps) {
+        Ok(()) => Ok(()),
+        Err(DiskFailed) => Err(Refusal::ReadFault),
+    }
+}
 
 /// Writes the bytes and syncs. At each moment of it a crash leaves what it might have left before, but for these bytes.
 pub fn write_through<D: Disk>(disk: &mut D, at: u64, bytes: &[u8]) -> Result<(), DiskFailed>
