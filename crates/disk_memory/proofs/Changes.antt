@@ -4,10 +4,11 @@ use Rattle.std.specs.Prelude.{Result, Ok, Err, OnOk, OnErr}
 use Rattle.std.proofs.lemmas.List.{take_all, take-append-le, length_push}
 use Rattle.disk_trait.specs.Disk.{Agrees, Holds, Elapses, Follows, Only}
 use Rattle.disk_trait.specs.Moments.{AgreesOutside}
+use Rattle.disk_trait.proofs.Pages.{agrees_same}
 use Rattle.disk_memory.specs.declared.history.Event.{Event}
 use Rattle.disk_memory.specs.Events.{change_of}
 use Rattle.disk_memory.specs.Past.{Past, Held, Change, Written, Failed, Synced, turned, run, held, held_after, Leaves, HadBeen, with_change}
-use Rattle.disk_memory.proofs.Ranges.{agrees_same, holds_agrees, torn, outside_nothing, outside_any}
+use Rattle.disk_memory.proofs.Ranges.{holds_agrees, torn, outside_nothing, outside_any}
 
 run_push : (h : Held) (changes : List Change) (e : Change) → run h (changes ++ e ∷ []) ≡ turned (run h changes) e
 run_push h [] e = refl

@@ -1,11 +1,12 @@
 -- An image in which each byte that is not on the disk becomes another one, range by range.
-use Rattle.std.proofs.Common.{◌≡◌, ◌≢◌, ◌<◌, ◌≤◌, ◌+◌, ◌⊎◌, inl, inr, ℕ, List, [], ◌∷◌, length, map, take, get_or, slice_index, sym, ap, subst, ◌∙◌, arith}
+use Rattle.std.proofs.Common.{◌≡◌, ◌≢◌, ◌<◌, ◌≤◌, ◌+◌, ◌⊎◌, inl, inr, ℕ, List, [], ◌∷◌, length, map, take, get_or, slice_index, sym, ap, subst, ◌∙◌}
 use Rattle.std.proofs.lemmas.List.{take_all}
 use Rattle.disk_trait.specs.Moments.{IsOutside, AgreesOutside}
 use Rattle.disk_memory.specs.declared.history.Event.{Event}
 use Rattle.disk_memory.specs.Events.{change_of}
 use Rattle.disk_memory.specs.Past.{Change, turned, held_after}
 use Rattle.disk_memory.specs.OnDisk.{IsInside, IsOther}
+use Rattle.disk_memory.proofs.Ranges.{by_range}
 use Rattle.disk_memory.proofs.Walks.{held_next}
 
 -- the ranges that are dirty after the first events
@@ -17,9 +18,6 @@ pub record IsChanging (all left : List (ℕ × ℕ)) (bytes synced first image :
   pub outside : AgreesOutside all first image
   pub still : (i : ℕ) → IsOutside all i → IsOutside left i
   pub inside : (i : ℕ) → IsInside all i → IsInside left i ⊎ IsOther bytes synced image i
-
-by_range : (i at n : ℕ) → (i < at) ⊎ ((at ≤ i) × (i < at + n)) ⊎ (at + n ≤ i)
-by_range i at n = grind arith
 
 -- the bytes of one range more are other ones
 pub changing_next : (all left : List (ℕ × ℕ)) (at n : ℕ) (bytes synced first image new : List ℕ) → IsChanging all ((at, n) ∷ left) bytes synced first image → length new ≡ length image

@@ -1,44 +1,11 @@
 -- What stays of an image where ranges of its bytes change.
-use Rattle.std.proofs.Common.{◌≡◌, ◌<◌, ◌≤◌, ◌⊎◌, inl, inr, ⊎_elim, ◌+◌, ◌-◌, ◌*◌, ℕ, List, [], ◌∷◌, ◌++◌, length, take, drop, get_or, slice_index, slice_range, refl, sym, ap, ◌∙◌, arith, rules, length-append, append_assoc}
-use Rattle.std.proofs.lemmas.List.{drop-drop, drop_at, length-take, length-take-le, length-drop, get_or-take, get_or-drop, get_or_append_left, get_or-append_right, ext_get_or, places}
+use Rattle.std.proofs.Common.{◌≡◌, ◌<◌, ◌≤◌, ◌⊎◌, inl, inr, ⊎_elim, ◌+◌, ◌-◌, ◌*◌, ℕ, List, [], ◌∷◌, ◌++◌, length, take, drop, get_or, slice_index, slice_range, sym, ap, ◌∙◌, arith, rules, length-append, append_assoc}
+use Rattle.std.proofs.lemmas.List.{drop_at, length-take, length-take-le, length-drop, get_or-take, get_or-drop, get_or_append_left, get_or-append_right, ext_get_or, places}
 use Rattle.std.proofs.lemmas.Slice.{overwrites}
 use Rattle.grid_types.specs.Pages.{page_of}
 use Rattle.disk_trait.specs.Disk.{Agrees, Holds}
 use Rattle.disk_trait.specs.Moments.{AgreesOutside}
-
-pub agrees_same : (at n : ℕ) (c : List ℕ) → Agrees at n c c
-agrees_same at n c = record { same_length = refl; before = refl; after = refl }
-
-drop_past : (n m : ℕ) (c d : List ℕ) → n ≤ m → drop n d ≡ drop n c → drop m d ≡ drop m c
-drop_past n m c d le e =
-    let s : n + (m - n) ≡ m = omega (arith, le) in
-    ap (λ (k : ℕ). drop k d) (sym s) ∙ sym (drop-drop (m - n) n d) ∙ ap (drop (m - n)) e ∙ drop-drop (m - n) n c ∙ ap (λ (k : ℕ). drop k c) s
-
--- a byte that the range doesn't meet
-pub byte_apart : (at n i : ℕ) (c d : List ℕ) → (i < at) ⊎ (at + n ≤ i) → Agrees at n c d → slice_index d i ≡ slice_index c i
-byte_apart at n i c d (inl below) a = sym (get_or-take at d i 0 below) ∙ ap (λ (xs : List ℕ). get_or xs i 0) a.before ∙ get_or-take at c i 0 below
-byte_apart at n i c d (inr above) a =
-    let s : i + 0 ≡ i = omega arith in
-    ap (λ (k : ℕ). get_or d k 0) (sym s) ∙ sym (get_or-drop i d 0 0) ∙ ap (λ (xs : List ℕ). get_or xs 0 0) (drop_past (at + n) i c d above a.after) ∙ get_or-drop i c 0 0 ∙ ap (λ (k : ℕ). get_or c k 0) s
-
-take_same : (at n : ℕ) (c d : List ℕ) → length d ≡ length c → ((i : ℕ) → (i < at) ⊎ (at + n ≤ i) → slice_index d i ≡ slice_index c i) → at ≤ length c → take at d ≡ take at c
-take_same at n c d len each le =
-    let ld : length (take at d) ≡ at = length-take-le at d (omega (arith, le, len)) in
-    let lc : length (take at c) ≡ at = length-take-le at c le in
-    ext_get_or 0 (take at d) (take at c) (ld ∙ sym lc) (λ i h.
-    let lt : i < at = omega (arith, h, ld) in
-    get_or-take at d i 0 lt ∙ each i (inl lt) ∙ sym (get_or-take at c i 0 lt))
-
-drop_same : (at n : ℕ) (c d : List ℕ) → length d ≡ length c → ((i : ℕ) → (i < at) ⊎ (at + n ≤ i) → slice_index d i ≡ slice_index c i) → drop (at + n) d ≡ drop (at + n) c
-drop_same at n c d len each =
-    let same : length (drop (at + n) d) ≡ length (drop (at + n) c) = length-drop (at + n) d ∙ ap (λ (k : ℕ). k - (at + n)) len ∙ sym (length-drop (at + n) c) in
-    ext_get_or 0 (drop (at + n) d) (drop (at + n) c) same (λ i h.
-    let le : at + n ≤ at + n + i = omega arith in
-    get_or-drop (at + n) d i 0 ∙ each (at + n + i) (inr le) ∙ sym (get_or-drop (at + n) c i 0))
-
--- images with the same bytes outside of a range agree
-agrees_by_bytes : (at n : ℕ) (c d : List ℕ) → at ≤ length c → length d ≡ length c → ((i : ℕ) → (i < at) ⊎ (at + n ≤ i) → slice_index d i ≡ slice_index c i) → Agrees at n c d
-agrees_by_bytes at n c d le len each = record { same_length = len; before = take_same at n c d len each le; after = drop_same at n c d len each }
+use Rattle.disk_trait.proofs.Pages.{byte_apart, agrees_by_bytes}
 
 -- what is written changes nothing outside of its range
 pub holds_agrees : (old : List ℕ) (at : ℕ) (bytes new : List ℕ) → at + length bytes ≤ length old → Holds old at bytes new → Agrees at (length bytes) old new
@@ -87,8 +54,9 @@ module _ (at n : ℕ) (c old : List ℕ) (len : length c ≡ length old) (le : a
   spliced : Agrees at n (splice at n c old) c
   spliced = agrees_by_bytes at n (splice at n c old) c (omega (arith, splice_long, len, le)) (sym splice_long) (λ i o. ⊎_elim (λ lt. sym (splice_before i lt)) (λ gt. sym (splice_behind i gt)) o)
 
-three : (i at n : ℕ) → (i < at) ⊎ ((at ≤ i) × (i < at + n)) ⊎ (at + n ≤ i)
-three i at n = grind arith
+-- a byte stands before a range, in it, or behind it
+pub by_range : (i at n : ℕ) → (i < at) ⊎ ((at ≤ i) × (i < at + n)) ⊎ (at + n ≤ i)
+by_range i at n = grind arith
 
 -- each image that may be left after a write was one before it, but for the bytes of the write
 pub torn : (dirty : List (ℕ × ℕ)) (at n : ℕ) (old new : List ℕ) → at + n ≤ length old → Agrees at n old new → (c : List ℕ) → AgreesOutside ((at, n) ∷ dirty) new c → (d : List ℕ) × AgreesOutside dirty old d × Agrees at n d c
@@ -97,7 +65,7 @@ torn dirty at n old new le a c left =
       splice at n c old,
       record {
         same_length = splice_long at n c old len le ∙ len;
-        each = λ i o. elim (three i at n) [
+        each = λ i o. elim (by_range i at n) [
           | inl lt ↦ splice_before at n c old len le i lt ∙ left.each i (inl lt, o) ∙ byte_apart at n i old new (inl lt) a
           | inr (inl mid) ↦ splice_inside at n c old len le i mid.0 mid.1
           | inr (inr gt) ↦ splice_behind at n c old len le i gt ∙ left.each i (inr gt, o) ∙ byte_apart at n i old new (inr gt) a

@@ -7,12 +7,14 @@ use Rattle.std.proofs.lemmas.List.Folds.{list_any-append}
 use Rattle.std.proofs.Math.Bool.{or-true, or-false}
 use Rattle.std.proofs.lemmas.Bool.{false≢true}
 use Rattle.disk_trait.specs.Moments.{AgreesOutside}
+use Rattle.disk_trait.proofs.Pages.{byte_apart}
+use Rattle.disk_trait.proofs.Ranges.{outside_same}
 use Rattle.disk_memory.specs.declared.history.Event.{Event}
 use Rattle.disk_memory.specs.declared.history.Event.TheVariants.{Write, FailedWrite, Sync}
 use Rattle.disk_memory.specs.Events.{change_of}
 use Rattle.disk_memory.specs.Past.{Past, Held, Change, Written, Failed, Synced, turned, run, held, held_after, Leaves}
 use Rattle.disk_memory.specs.OnDisk.{is_sync, up_to_sync, on_disk, LiesInside}
-use Rattle.disk_memory.proofs.Ranges.{byte_apart, holds_agrees}
+use Rattle.disk_memory.proofs.Ranges.{holds_agrees}
 use Rattle.disk_memory.proofs.Walks.{changes_more, turned_long, held_long}
 
 -- the changes up to the last sync, where the last change is a sync, and where it is not
@@ -74,21 +76,6 @@ run_append : (h : Held) (xs ys : List Change) → run h (xs ++ ys) ≡ run (run 
 run_append h [] ys = refl
 run_append h (x ∷ xs) ys = run_append (turned h x) xs ys
 
--- nothing is dirty at a sync
-clean_next : (b : Bool) (h : Held) (e : Change) (es : List Change) → list_any is_sync es ≡ b → list_any is_sync (e ∷ es) ≡ true → ((g : Held) → list_any is_sync es ≡ true → (run g (up_to_sync es)).dirty ≡ []) → (run h (e ∷ up_to_sync es)).dirty ≡ []
-clean_next true h e es some any rest = rest (turned h e) some
-clean_next false h (Written at bytes) es none any rest = absurd (false≢true (sym none ∙ any))
-clean_next false h (Failed at n) es none any rest = absurd (false≢true (sym none ∙ any))
-clean_next false h Synced es none any rest = ap (λ fs. (run (turned h Synced) fs).dirty) (up_none es none)
-
-clean_at_sync : (h : Held) (changes : List Change) → list_any is_sync changes ≡ true → (run h (up_to_sync changes)).dirty ≡ []
-clean_at_sync h [] any = absurd (false≢true any)
-clean_at_sync h (e ∷ es) any = ap (λ fs. (run h fs).dirty) (up_cons e es any) ∙ clean_next (list_any is_sync es) h e es refl any (λ g some. clean_at_sync g es some)
-
-clean_by : (b : Bool) (first : List ℕ) (changes : List Change) → list_any is_sync changes ≡ b → (held_after first (up_to_sync changes)).dirty ≡ []
-clean_by true first changes h = clean_at_sync (record { bytes = first; dirty = [] }) changes h
-clean_by false first changes h = ap (λ fs. (held_after first fs).dirty) (up_none changes h)
-
 -- changes that are no syncs leave all but their ranges as it was
 turned_left : (size : ℕ) (h : Held) (e : Change) (base : List ℕ) → length h.bytes ≡ size → LiesInside size e → is_sync e ≡ false → AgreesOutside h.dirty h.bytes base → AgreesOutside (turned h e).dirty (turned h e).bytes base
 turned_left size h (Written at bytes) base long le other left =
@@ -124,7 +111,5 @@ on_disk_left p all =
     let up = up_to_sync p.changes in
     let h = held_after p.first up in
     let parts = subst (All P) s.1 all in
-    let clean = clean_by (list_any is_sync p.changes) p.first p.changes refl in
-    let before : AgreesOutside h.dirty h.bytes h.bytes = record { same_length = refl; each = λ i o. refl } in
     let whole : held p ≡ run h s.0 = ap (held_after p.first) s.1 ∙ run_append (record { bytes = p.first; dirty = [] }) up s.0 in
-    subst (λ g. Leaves g (on_disk p)) (sym whole) (run_left (length p.first) h s.0 h.bytes (held_long p.first up (all_front P up s.0 parts)) (all_back P up s.0 parts) s.2 before)
+    subst (λ g. Leaves g (on_disk p)) (sym whole) (run_left (length p.first) h s.0 h.bytes (held_long p.first up (all_front P up s.0 parts)) (all_back P up s.0 parts) s.2 (outside_same h.dirty h.bytes))

@@ -2,8 +2,8 @@
 use Rattle.std.specs.Prelude.{◌≡◌, ℕ, List}
 use Rattle.disk_memory.specs.declared.memory.Memory.{Memory}
 use Rattle.disk_memory.specs.declared.fused.Fused.{Fused}
-use Rattle.disk_memory.specs.declared.fused.Keep.{Keep}
-use Rattle.disk_memory.specs.declared.fused.Keep.TheVariants as keep
+use Rattle.disk_memory.specs.declared.keep.Keep.{Keep}
+use Rattle.disk_memory.specs.declared.keep.Keep.TheVariants as keep
 use Rattle.disk_memory.specs.OnDisk.{IsInside, IsOther}
 use Rattle.disk_memory.specs.Memories.{bytes_of, dirty_of, on_disk_of, chosen_of, TellsSame}
 

@@ -31,7 +31,7 @@ pub struct MemoryBay {
 
 impl MemoryBay {
     ghost use Rattle.disk_memory.specs.Memories.{bytes_of};
-    ghost use Rattle.disk_memory.specs.Bays.{is_named, place_of, place_of_disk, failures_of, chosen_calls, SamePlaces, HasNoDisk};
+    ghost use Rattle.disk_memory.specs.Bays.{place_of, place_of_disk, failures_of, chosen_calls, SamePlaces, HasNoDisk};
 
     /// A bay with no name.
     pub fn new(alloc: Global) -> MemoryBay
@@ -83,6 +83,7 @@ impl MemoryBay {
         self.plan.choose(call)
     }
 
+    /// The first entry with a name.
     fn find(&self, name: &str) -> Option<usize>
         ensures first { result ≡ position (is_named name.now) self.now.entries.items }
         ensures absent { IsNone result ↔ (place_of self.now name.now ≡ Absent) }
@@ -90,6 +91,7 @@ impl MemoryBay {
         first_with_name(&self.entries, name)
     }
 
+    /// Adds an entry for a name that is absent.
     fn add_entry(&mut self, name: &str, disk: Option<Memory>) -> Result<(), AllocError>
         requires { place_of self.old name.now ≡ Absent }
         ensures added { OnOk result (place_of self.new name.now ≡ place_of_disk disk) }
@@ -120,12 +122,14 @@ impl MemoryBay {
     }
 }
 
+/// The first of some entries with a name.
 fn first_with_name(entries: &[Entry], name: &str) -> Option<usize>
     ensures { result ≡ position (is_named name.now) entries.now }
 {
     entries.iter().position(|entry| entry.name.as_str() == name)
 }
 
+/// Counts a failure of the bay.
 fn count_failure(failures: &mut u64) -> BayFailed
     ensures counted { failures.new ≡ min (failures.old + 1) (2 ^ 64 - 1) }
     ensures later { failures.old ≤ failures.new }
@@ -226,7 +230,7 @@ impl Bay for MemoryBay {
         let disk_failed = disk.read_faults() != 0 || disk.write_faults() != 0;
         let is_closed = !self.plan.is_next_chosen() && self.put_back(name, disk).is_ok();
         if disk_failed || !is_closed {
-            self.failures = self.failures.saturating_add(1);
+            count_failure(&mut self.failures);
         }
         if is_closed { Ok(()) } else { Err(BayFailed) }
     }

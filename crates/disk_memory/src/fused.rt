@@ -1,21 +1,14 @@
 //! A disk in memory that stops.
-ghost use Rattle.std.specs.Prelude.{◌≡◌, ◌≢◌, ◌↔◌, ◌⊎◌, List, ℕ, Contains, IsErr, IsTrue, ◌+◌, ◌-◌, ◌*◌, ◌∷◌, ◌≤◌, [], length, IfOk, OnOk, OnErr};
+ghost use Rattle.std.specs.Prelude.{◌≡◌, ◌≢◌, ◌↔◌, ◌⊎◌, List, ℕ, Contains, IsErr, IsTrue, ◌+◌, ◌-◌, ◌*◌, ◌∷◌, ◌≤◌, [], length, refl, IfOk, OnOk, OnErr};
 ghost use Rattle.disk_trait.specs.Causes.{HasCause};
 ghost use Rattle.grid_types.specs.Pages.{page_of};
 ghost use Rattle.disk_trait.specs.Disk.{Only, Follows, Agrees, Holds, InOnePage};
 
+use crate::keep::Keep;
 use crate::memory::Memory;
 use disk_trait::{Disk, DiskFailed, Steps};
 use std::alloc::AllocError;
 use std::sync::ledger::Ledger;
-
-/// What a crash leaves of the bytes that are not on the disk yet: all of them, none, or others in their place.
-#[derive(Clone, Copy, Debug, PartialEq, Eq)]
-pub enum Keep {
-    All,
-    None,
-    Changed,
-}
 
 /// A disk in memory that makes some calls, and fails each one behind them: so a run is cut off at any call of it, and
 /// goes on from what a crash leaves there. A call that it does not make touches no byte.
@@ -60,7 +53,6 @@ fn is_made(left: &mut u64) -> bool
 }
 
 impl Disk for Fused {
-    ghost use Rattle.std.specs.Prelude.{length, refl};
     ghost use Rattle.disk_memory.specs.Plans.{after_a_call, counted};
     ghost use Rattle.disk_memory.specs.Memories.{TimeGoesOn, dirty_of, chosen_of, is_told, bytes_of, extent_of, MayLeave, moment_of, LeftSince, failed_reads, failed_writes};
     ghost use Rattle.disk_memory.specs.Fuses.{disk_of, calls_left, IsAs};

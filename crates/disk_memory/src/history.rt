@@ -9,10 +9,14 @@ use crate::replay::{change_unsynced, replay, synced_count};
 use std::alloc::{AllocError, Global};
 use std::marker::Model;
 
+/// What has happened to the bytes of a disk.
 #[derive(Drop)]
 pub enum Event {
+    /// Bytes were written from an offset on.
     Write { at: usize, bytes: Vec<u8> },
+    /// A write of that many bytes failed.
     FailedWrite { at: usize, size: usize },
+    /// All that was written is on the disk.
     Sync,
 }
 
@@ -53,6 +57,7 @@ impl History {
         })
     }
 
+    /// Records that bytes are written from an offset on. Its only error is want of memory.
     pub fn record_write(&mut self, at: usize, bytes: &[u8]) -> Result<(), AllocError>
         requires { at + length bytes.now ≤ length (held self.old).bytes }
         ensures recorded { OnOk result (self.new ≡ with_change self.old (Written at bytes.now)) }
@@ -62,6 +67,7 @@ impl History {
         self.add(Event::Write { at, bytes: copy })
     }
 
+    /// Records that a write of that many bytes failed. Its only error is want of memory.
     pub fn record_failed_write(&mut self, at: usize, size: usize) -> Result<(), AllocError>
         requires { at + size ≤ length (held self.old).bytes }
         ensures recorded { OnOk result (self.new ≡ with_change self.old (Failed at size)) }

@@ -6,6 +6,7 @@
 mod bay;
 mod fused;
 mod history;
+mod keep;
 mod memory;
 mod piece;
 mod plan;
@@ -14,7 +15,8 @@ mod sink;
 mod source;
 
 pub use bay::MemoryBay;
-pub use fused::{Fused, Keep};
+pub use fused::Fused;
+pub use keep::Keep;
 pub use memory::Memory;
 pub use sink::ByteSink;
 pub use source::ByteSource;

@@ -1,14 +1,15 @@
 //! A disk in memory that tells all that it holds.
-ghost use Rattle.std.specs.Prelude.{◌≡◌, ◌↔◌, ◌⊎◌, List, ℕ, Contains, IsErr, ◌+◌, ◌-◌, ◌^◌, min, ◌*◌, ◌%◌, ◌++◌, ◌∷◌, ◌≤◌, [], length, IfOk, OnOk, OnErr};
+ghost use Rattle.std.specs.Prelude.{◌≡◌, ◌↔◌, ◌⊎◌, List, ℕ, Contains, IsErr, ◌+◌, ◌-◌, ◌^◌, min, ◌*◌, ◌%◌, ◌++◌, ◌∷◌, ◌≤◌, [], length, refl, IfOk, OnOk, OnErr};
 ghost use Rattle.disk_trait.specs.Bay.{blank};
 ghost use Rattle.disk_trait.specs.Causes.{HasCause};
 ghost use Rattle.grid_types.specs.Pages.{page_of};
 ghost use Rattle.disk_trait.specs.Disk.{Only, Follows, Agrees, Holds, InOnePage};
 ghost use Rattle.disk_memory.specs.Past.{held};
 
-use crate::fused::Keep;
 use crate::history::History;
+use crate::keep::Keep;
 use crate::plan::Plan;
+use crate::replay::overwrite;
 use disk_trait::{Disk, DiskFailed, Steps};
 use std::alloc::{AllocError, Global};
 use std::sync::ledger::Ledger;
@@ -102,7 +103,7 @@ impl Memory {
         Memory::with_bytes(alloc, bytes)
     }
 
-    /// Counts a read that is not made.
+    /// Counts a read that fails.
     pub(crate) fn refuse_read(&mut self) -> DiskFailed
         ensures counted { self.new ≡ record self.old { reads = min (self.old.reads + 1) (2 ^ 64 - 1) } }
         ensures later { self.old.reads ≤ self.new.reads }
@@ -111,7 +112,7 @@ impl Memory {
         DiskFailed
     }
 
-    /// Counts a write or a sync that is not made.
+    /// Counts a write or a sync that fails.
     pub(crate) fn refuse_write(&mut self) -> DiskFailed
         ensures counted { self.new ≡ record self.old { writes = min (self.old.writes + 1) (2 ^ 64 - 1) } }
         ensures later { self.old.writes ≤ self.new.writes }
@@ -134,15 +135,7 @@ impl Memory {
     }
 }
 
-pub fn overwrite(all: &mut [u8], at: usize, bytes: &[u8])
-    requires { at + length bytes.now ≤ length all.old }
-    ensures { Holds all.old at bytes.now all.new }
-{
-    all[at..at + bytes.len()].copy_from_slice(bytes);
-}
-
 impl Disk for Memory {
-    ghost use Rattle.std.specs.Prelude.{length, refl};
     ghost use Rattle.disk_memory.specs.Plans.{after_a_call, counted};
     ghost use Rattle.disk_memory.specs.Memories.{TimeGoesOn, dirty_of, chosen_of, is_told, bytes_of, extent_of, MayLeave, moment_of, LeftSince, failed_reads, failed_writes};
     ghost use Rattle.disk_memory.specs.PastLaws.{leaves_itself, had_been_now, only_last};
@@ -228,19 +221,15 @@ impl Disk for Memory {
     {
         let at = at as usize;
         if self.plan.is_next_chosen() {
-            self.writes = self.writes.saturating_add(1);
             let _ = self.history.record_failed_write(at, bytes.len());
-            return Err(DiskFailed);
+            return Err(self.refuse_write());
         }
         match self.history.record_write(at, bytes) {
             Ok(()) => {
                 overwrite(&mut self.bytes, at, bytes);
                 Ok(())
             }
-            Err(AllocError) => {
-                self.writes = self.writes.saturating_add(1);
-                Err(DiskFailed)
-            }
+            Err(AllocError) => Err(self.refuse_write()),
         }
     }
 
@@ -263,8 +252,7 @@ impl Disk for Memory {
         ensures failed_dirty { OnErr result (dirty_of self.new ≡ dirty_of self.old) }
     {
         if self.plan.is_next_chosen() {
-            self.writes = self.writes.saturating_add(1);
-            return Err(DiskFailed);
+            return Err(self.refuse_write());
         }
         self.history.record_sync();
         Ok(())

@@ -1,12 +1,20 @@
 //! Walks over what has happened to a disk, to find what is on it for good.
 ghost use Rattle.std.specs.Prelude.{◌≡◌, ◌≢◌, ◌≤◌, ◌<◌, ◌+◌, ◌⊎◌, ℕ, List, All, length, map, take, slice_index};
+ghost use Rattle.disk_trait.specs.Disk.{Holds};
 ghost use Rattle.disk_trait.specs.Moments.{AgreesOutside};
 ghost use Rattle.disk_memory.specs.Past.{held_after};
 ghost use Rattle.disk_memory.specs.Events.{change_of};
 ghost use Rattle.disk_memory.specs.OnDisk.{LiesInside, up_to_sync, IsInside, IsOther};
 
 use crate::history::Event;
-use crate::memory::overwrite;
+
+/// Writes bytes over those from an offset on.
+pub fn overwrite(all: &mut [u8], at: usize, bytes: &[u8])
+    requires { at + length bytes.now ≤ length all.old }
+    ensures { Holds all.old at bytes.now all.new }
+{
+    all[at..at + bytes.len()].copy_from_slice(bytes);
+}
 
 /// How many events there are up to the last sync, that one included.
 pub fn synced_count(events: &[Event]) -> usize

@@ -1,6 +1,6 @@
-use Rattle.std.proofs.Common.{◌∙◌, length, sym, arith}
+use Rattle.std.proofs.Common.{◌≡◌, ◌⊎◌, ◌∙◌, length, sym, arith}
 use Rattle.std.proofs.lemmas.List.{with_items_is}
-use Rattle.disk_memory.specs.Past.{Failed}
+use Rattle.disk_memory.specs.Past.{Failed, with_change}
 use Rattle.disk_memory.proofs.Changes.{either_way, failed_same, failed_dirty, failed_crash, elapses_either, written_over, written_dirty, written_agrees, written_crash, elapses_push}
 use Rattle.disk_memory.proofs.memory.MemoryDisk.write.Goals as goal
 
@@ -13,11 +13,15 @@ invariant_of-self-in-Ok c = record {
       ∙ written_over _ _ _ _ c.in-Ok.ensures.recorded _ _ (c.deref_mut.ensures.value ∙ c.args.self.now.kept) c.overwrite.ensures;
 }
 
+-- what a write that was chosen to fail leaves of what is recorded
+recorded : (c : goal.After-refuse_write) → (c.refuse_write.new.self.history ≡ c.args.self.now.history) ⊎ (c.refuse_write.new.self.history ≡ with_change c.args.self.now.history (Failed c.args.at (length c.args.bytes.now)))
+recorded c = rw c.refuse_write.ensures.counted (either_way _ _ c.record_failed_write.result c.record_failed_write.ensures.recorded c.record_failed_write.ensures.refused)
+
 pub returns-then-is_next_chosen-clause-crash : goal.returns-then-is_next_chosen-clause-crash
-returns-then-is_next_chosen-clause-crash c = failed_crash _ _ _ _ (either_way _ _ c.record_failed_write.result c.record_failed_write.ensures.recorded c.record_failed_write.ensures.refused) c.requires.inside
+returns-then-is_next_chosen-clause-crash c = failed_crash _ _ _ _ (recorded c) c.requires.inside
 
 pub returns-then-is_next_chosen-clause-time : goal.returns-then-is_next_chosen-clause-time
-returns-then-is_next_chosen-clause-time c = elapses_either _ _ (Failed c.args.at (length c.args.bytes.now)) (either_way _ _ c.record_failed_write.result c.record_failed_write.ensures.recorded c.record_failed_write.ensures.refused)
+returns-then-is_next_chosen-clause-time c = elapses_either _ _ (Failed c.args.at (length c.args.bytes.now)) (recorded c)
 
 pub returns-in-Ok-clause-outside : goal.returns-in-Ok-clause-outside
 returns-in-Ok-clause-outside c = written_agrees _ _ _ _ c.in-Ok.ensures.recorded c.requires.inside
@@ -32,4 +36,4 @@ pub returns-in-Ok-clause-dirty : goal.returns-in-Ok-clause-dirty
 returns-in-Ok-clause-dirty c = written_dirty _ _ _ _ c.in-Ok.ensures.recorded
 
 pub returns-then-is_next_chosen-clause-failed_dirty : goal.returns-then-is_next_chosen-clause-failed_dirty
-returns-then-is_next_chosen-clause-failed_dirty c = failed_dirty _ _ _ _ (either_way _ _ c.record_failed_write.result c.record_failed_write.ensures.recorded c.record_failed_write.ensures.refused)
+returns-then-is_next_chosen-clause-failed_dirty c = failed_dirty _ _ _ _ (recorded c)
