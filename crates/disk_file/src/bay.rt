@@ -16,12 +16,14 @@ pub struct FileBay<R: Files<File = File> + Drop> {
 }
 
 impl<R: Files<File = File> + Drop> FileBay<R> {
+    /// A bay that has not failed.
     pub fn new(files: R) -> FileBay<R>
         ensures { ⟦<FileBay<R> as Bay>⟧.fault_count result ≡ 0 }
     {
         FileBay { files, faults: 0 }
     }
 
+    /// Counts a failure of the bay.
     fn count_fault(&mut self)
         ensures rose { Rose self.old.faults self.new.faults }
         ensures later { self.old.faults ≤ self.new.faults }
@@ -62,6 +64,7 @@ fn create_file<R: Files<File = File>>(files: &R, name: &str, pages: u64) -> io::
     }
 }
 
+/// Opens a file to read and write it. Its size is that of the moment.
 fn open_file<R: Files<File = File>>(files: &R, name: &str) -> io::Result<FileDisk>
     ensures { IfOk result (λ d. (d.read_faults ≡ 0) × (d.write_faults ≡ 0)) }
 {

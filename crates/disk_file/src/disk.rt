@@ -1,5 +1,5 @@
 //! A disk over an open file.
-ghost use Rattle.std.specs.Prelude.{◌≡◌, ◌+◌, ◌*◌, ℕ, List, [], ⊤, false, min, IfOk};
+ghost use Rattle.std.specs.Prelude.{◌≡◌, [], ⊤, false};
 ghost use Rattle.std.proofs.lemmas.Bool.{false≢true};
 
 use disk_trait::{Disk, DiskFailed, Steps};

@@ -12,6 +12,7 @@ pub struct StreamSource<R: Read + Drop> {
 }
 
 impl<R: Read + Drop> StreamSource<R> {
+    /// A source that has not failed.
     pub fn new(reader: R) -> StreamSource<R>
         ensures { ⟦<StreamSource<R> as Source>⟧.fault_count result ≡ 0 }
     {
@@ -49,6 +50,7 @@ pub struct StreamSink<W: Write + Drop> {
 }
 
 impl<W: Write + Drop> StreamSink<W> {
+    /// A sink that has not failed.
     pub fn new(writer: W) -> StreamSink<W>
         ensures { ⟦<StreamSink<W> as Sink>⟧.fault_count result ≡ 0 }
     {
