@@ -76,6 +76,7 @@ impl History {
         self.add(Event::FailedWrite { at, size })
     }
 
+    /// Adds an event, where there is memory for one more behind it. Its only error is want of memory.
     fn add(&mut self, event: Event) -> Result<(), AllocError>
         requires { LiesInside (length (held self.old).bytes) (change_of event) }
         ensures added { OnOk result (self.new ≡ with_change self.old (change_of event)) }

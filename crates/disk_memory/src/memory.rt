@@ -14,6 +14,7 @@ use disk_trait::{Disk, DiskFailed, Steps};
 use std::alloc::{AllocError, Global};
 use std::sync::ledger::Ledger;
 
+/// How many bytes a page has.
 const PAGE_SIZE: usize = 4096;
 
 /// A disk in memory, and the whole of what a crash may do to it.
