@@ -1,39 +1,30 @@
--- The lines of a script that the program takes, and the first that it does not.
+-- The lines of a script that the program takes, and the first that it refuses.
 use Rattle.std.proofs.lemmas.List.{length-map}
 use Rattle.std.proofs.lemmas.Bool.Decides.{nat_tests}
 use Rattle.std.proofs.lemmas.List.FromFn.{length-range_with_len}
-use Rattle.std.proofs.Common.{◌==◌, cond, nat_le, leb-true, leb-false, eqb-true, Result, ◌≡◌, ◌<◌, ◌≤◌, ◌+◌, ◌-◌, ◌⊎◌, ⊎_elim, inl, inr, ℕ, zero, suc, Bool, true, false, List, [], ◌∷◌, length, Option, Some, None, IsTrue, Ok, Err, refl, sym, ap, subst, ◌∙◌, arith, true≢false, slice_get}
+use Rattle.std.proofs.Common.{◌==◌, cond, nat_le, leb-true, leb-false, eqb-true, Result, ◌≡◌, ◌<◌, ◌≤◌, ◌+◌, ◌-◌, ◌⊎◌, ⊎_elim, inl, inr, ℕ, zero, suc, Bool, true, false, List, [], ◌∷◌, fold, take, length, Option, Some, None, IsTrue, IsFalse, Ok, Err, refl, sym, ap, subst, ◌∙◌, arith, true≢false, slice_get}
 use Rattle.std.specs.Prelude.{filter_map}
 use Rattle.std.specs.List.{Contains, range_with_len, cons_option}
 use Rattle.std.specs.Option.{is_some, option_and_then}
 use Rattle.grid_types.specs.declared.request.Line.{Line}
 use Rattle.grid_model.specs.Lists.{below}
-use Rattle.grid_model.specs.Script.{Meaning, meaning, lines, lines_of, onto_first, meanings, longest}
+use Rattle.grid_model.specs.Script.{Meaning, Silent, Speaks, Asks, Bad, meaning, lines, lines_of, onto_first, meanings, longest}
 use Rattle.grid_model.specs.ScriptLaws.{line_at, line_of, speaker, speaker_at}
-use Rattle.grid_model.proofs.Reading.{one-script, said}
+use Rattle.grid_model.proofs.Reading.{one-script}
 use Rattle.grid_model.proofs.Boxes.{one-value}
-use Rattle.grid_script.specs.declared.script.ScriptFault.{ScriptFault}
-use Rattle.grid_script.specs.declared.script.ScriptFault.TheVariants as fault
-use Rattle.grid_script.specs.Taken.{is_taken, AreTaken, IsScript, FirstUntaken, IsFault, TakesAll, Passes}
+use Rattle.grid_script.specs.Taken.{is_taken, AreTaken, IsScript, Refuses, IsRefused, IsFirstRefused, IsFault, RefusesNone}
 
--- what a text has of lines, and what stands in a list
 ok-not-err : {X E : Type 0} (x : X) (e : E) → Ok x ≡ Err e → ⊥
 ok-not-err x e p = cc
 
-abbrev pub error-or : {X E : Type 0} → E → Result X E → E
-error-or d (Ok x) = d
-error-or d (Err e) = e
+some-not-none : {X : Type 0} (x : X) → None ≡ Some x → ⊥
+some-not-none x e = true≢false (sym (ap is_some e))
 
-got-inside : {X : Type 0} (xs : List X) (i : ℕ) (x : X) → slice_get xs i ≡ Some x → i < length xs
-got-inside [] i x e = absurd (true≢false (sym (ap is_some e)))
-got-inside (y ∷ ys) zero x e = omega arith
-got-inside (y ∷ ys) (suc i) x e = omega (arith, got-inside ys i x e)
-
+-- a text has no more lines than bytes
 few-onto : (b : ℕ) (ls : List (List ℕ)) (n : ℕ) → length ls ≤ n → length (onto_first b ls) ≤ suc n
 few-onto b [] n h = omega arith
 few-onto b (l ∷ ls) n h = omega (arith, h)
 
--- a text has no more lines than bytes
 few-lines : (bytes : List ℕ) → length (lines_of bytes) ≤ length bytes
 unfolding lines_of
 few-lines [] = omega arith
@@ -46,70 +37,101 @@ few-lines (b ∷ bs) = by (b == 10) (few-lines bs)
 apart : (n m : ℕ) → (n == m) ≡ false → (n < m) ⊎ (m < n)
 apart n m e = grind (arith, nat_tests)
 
+got-inside : {X : Type 0} (xs : List X) (i : ℕ) (x : X) → slice_get xs i ≡ Some x → i < length xs
+got-inside [] i x e = absurd (some-not-none x e)
+got-inside (y ∷ ys) zero x e = omega arith
+got-inside (y ∷ ys) (suc i) x e = omega (arith, got-inside ys i x e)
+
 module _ {K : ℕ} where
-  -- the program takes what each line asks, where a client spoke before the first
-  abbrev pub Takes : ℕ → List (Meaning K) → Type 0
-  Takes client ms = (i : ℕ) (l : Line K) → said client ms i ≡ Some l → IsTrue (is_taken l)
+  -- line i is refused, where this client spoke before the first
+  pub record Bars (client : ℕ) (ms : List (Meaning K)) (i : ℕ) : Type 0 where
+    pub says : Meaning K
+    pub there : slice_get ms i ≡ Some says
+    pub refused : Refuses (fold speaker client (take i ms)) says
 
-  -- line j is the first that it does not take
+  -- no line is refused
+  abbrev pub Passes : ℕ → List (Meaning K) → Type 0
+  Passes client ms = (i : ℕ) → Bars client ms i → ⊥
+
+  -- line j is the first that is refused
   pub record Stops (client : ℕ) (ms : List (Meaning K)) (j : ℕ) : Type 0 where
-    pub line : Line K
-    pub there : said client ms j ≡ Some line
-    pub untaken : is_taken line ≡ false
-    pub before : (i : ℕ) (l : Line K) → i < j → said client ms i ≡ Some l → IsTrue (is_taken l)
+    pub refused : Bars client ms j
+    pub first : (i : ℕ) → i < j → Bars client ms i → ⊥
 
-  -- behind a line that passes all are taken where the rest is
-  pub takes-more : (client : ℕ) (m : Meaning K) (ms : List (Meaning K)) → Passes (line_of client m) → Takes (speaker client m) ms → Takes client (m ∷ ms)
-  takes-more client m ms p h zero l e = p l e
-  takes-more client m ms p h (suc i) l e = h i l e
+  one-line : (client : ℕ) (m : Meaning K) (ms : List (Meaning K)) → (Refuses client m → ⊥) → Bars client (m ∷ ms) 0 → ⊥
+  one-line client m ms p b = p (subst (Refuses client) (sym (one-value m b.says b.there)) b.refused)
 
-  -- and the first that is not taken is one later
-  pub stops-later : (client : ℕ) (m : Meaning K) (ms : List (Meaning K)) (j : ℕ) → Passes (line_of client m) → Stops (speaker client m) ms j → Stops client (m ∷ ms) (suc j)
-  stops-later client m ms j p h = record { line = h.line; there = h.there; untaken = h.untaken; before = before }
+  behind : (client : ℕ) (m : Meaning K) (ms : List (Meaning K)) (i : ℕ) → Bars client (m ∷ ms) (suc i) → Bars (speaker client m) ms i
+  behind client m ms i b = record { says = b.says; there = b.there; refused = b.refused }
+
+  later : (client : ℕ) (m : Meaning K) (ms : List (Meaning K)) (i : ℕ) → Bars (speaker client m) ms i → Bars client (m ∷ ms) (suc i)
+  later client m ms i b = record { says = b.says; there = b.there; refused = b.refused }
+
+  -- behind a line that passes all pass where the rest does
+  passes-more : (client : ℕ) (m : Meaning K) (ms : List (Meaning K)) → (Refuses client m → ⊥) → Passes (speaker client m) ms → Passes client (m ∷ ms)
+  passes-more client m ms p h zero b = one-line client m ms p b
+  passes-more client m ms p h (suc i) b = h i (behind client m ms i b)
+
+  -- and the first that is refused is one later
+  stops-later : (client : ℕ) (m : Meaning K) (ms : List (Meaning K)) (j : ℕ) → (Refuses client m → ⊥) → Stops (speaker client m) ms j → Stops client (m ∷ ms) (suc j)
+  stops-later client m ms j p h = record { refused = later client m ms j h.refused; first = first }
     where
-      before : (i : ℕ) (l : Line K) → i < suc j → said client (m ∷ ms) i ≡ Some l → IsTrue (is_taken l)
-      before zero l q e = p l e
-      before (suc i) l q e = h.before i l (omega (arith, q)) e
+      first : (i : ℕ) → i < suc j → Bars client (m ∷ ms) i → ⊥
+      first zero q b = one-line client m ms p b
+      first (suc i) q b = h.first i (omega (arith, q)) (behind client m ms i b)
 
-  pub takes-none : (client : ℕ) → Takes client []
-  takes-none client i l e = absurd (true≢false (sym (ap is_some e)))
-
-  -- so far a text was read: where the rest is taken all is, and where the rest stops all does
+  -- so far a text was read: where the rest passes all does, and where the rest stops all does
   pub record Follows (all : List (Meaning K)) (client : ℕ) (rest : List (Meaning K)) (number : ℕ) : Type 0 where
-    pub takes : Takes client rest → Takes 1 all
+    pub passes : Passes client rest → Passes 1 all
     pub stops : (j : ℕ) → Stops client rest j → Stops 1 all (number - 1 + j)
 
   pub follows-start : (all : List (Meaning K)) → Follows all 1 all 1
-  follows-start all = record { takes = λ h. h; stops = λ j h. subst (Stops 1 all) (begins j) h }
+  follows-start all = record { passes = λ h. h; stops = λ j h. subst (Stops 1 all) (begins j) h }
     where
       begins : (j : ℕ) → j ≡ 1 - 1 + j
       begins j = omega arith
 
   -- one line more
-  pub follows-more : (all : List (Meaning K)) (client : ℕ) (m : Meaning K) (ms rest : List (Meaning K)) (number : ℕ) → 1 ≤ number → rest ≡ m ∷ ms → Passes (line_of client m) → Follows all client rest number → Follows all (speaker client m) ms (number + 1)
+  pub follows-more : (all : List (Meaning K)) (client : ℕ) (m : Meaning K) (ms rest : List (Meaning K)) (number : ℕ) → 1 ≤ number → rest ≡ m ∷ ms → (Refuses client m → ⊥) → Follows all client rest number → Follows all (speaker client m) ms (number + 1)
   follows-more all client m ms rest number some e p h = record {
-    takes = λ t. h.takes (subst (Takes client) (sym e) (takes-more client m ms p t));
-    stops = λ j t. subst (Stops 1 all) (later j) (h.stops (suc j) (subst (λ (xs : List (Meaning K)). Stops client xs (suc j)) (sym e) (stops-later client m ms j p t)));
+    passes = λ t. h.passes (subst (Passes client) (sym e) (passes-more client m ms p t));
+    stops = λ j t. subst (Stops 1 all) (onward j) (h.stops (suc j) (subst (λ (xs : List (Meaning K)). Stops client xs (suc j)) (sym e) (stops-later client m ms j p t)));
   }
     where
-      later : (j : ℕ) → number - 1 + suc j ≡ number + 1 - 1 + j
-      later j = omega (arith, some)
+      onward : (j : ℕ) → number - 1 + suc j ≡ number + 1 - 1 + j
+      onward j = omega (arith, some)
 
   -- the line at which it stops
-  pub stops-here : (client : ℕ) (m : Meaning K) (ms : List (Meaning K)) (l : Line K) → line_of client m ≡ Some l → is_taken l ≡ false → Stops client (m ∷ ms) 0
-  stops-here client m ms l e none = record { line = l; there = e; untaken = none; before = λ i x q f. absurd (omega (arith, q)) }
+  pub stops-here : (client : ℕ) (m : Meaning K) (ms : List (Meaning K)) → Refuses client m → Stops client (m ∷ ms) 0
+  stops-here client m ms r = record { refused = record { says = m; there = refl; refused = r }; first = λ i q b. absurd (omega (arith, q)) }
 
-  pub first-of : (bytes : List ℕ) (number : ℕ) → 1 ≤ number → Stops 1 (meanings K bytes) (number - 1 + 0) → FirstUntaken K bytes number
+  as-barred : (ms : List (Meaning K)) (i : ℕ) → IsRefused ms i → Bars 1 ms i
+  as-barred ms i r = record { says = r.says; there = r.there; refused = r.refused }
+
+  as-refused : (ms : List (Meaning K)) (i : ℕ) → Bars 1 ms i → IsRefused ms i
+  as-refused ms i r = record { says = r.says; there = r.there; refused = r.refused }
+
+  pub first-of : (bytes : List ℕ) (number : ℕ) → 1 ≤ number → Stops 1 (meanings K bytes) (number - 1 + 0) → IsFirstRefused K bytes number
   first-of bytes number some h = record {
     some = some;
-    line = h.line;
-    there = ap (line_at (meanings K bytes)) (same number) ∙ h.there;
-    untaken = h.untaken;
-    before = λ i l q e. h.before i l (omega (arith, q)) e;
+    refused = subst (IsRefused (meanings K bytes)) (same number) (as-refused (meanings K bytes) (number - 1 + 0) h.refused);
+    first = λ i q r. h.first i (omega (arith, q)) (as-barred (meanings K bytes) i r);
   }
     where
-      same : (n : ℕ) → n - 1 ≡ n - 1 + 0
+      same : (n : ℕ) → n - 1 + 0 ≡ n - 1
       same n = omega arith
+
+  nothing-barred : (client : ℕ) → Passes client []
+  nothing-barred client i b = some-not-none b.says b.there
+
+  empty-passes : (client : ℕ) (rest : List ℕ) → length rest ≡ 0 → Passes client (meanings K rest)
+  unfolding lines_of
+  empty-passes client [] h = nothing-barred client
+  empty-passes client (b ∷ rest) h = absurd (omega (arith, h))
+
+  -- where nothing is left, no line is refused
+  pub all-pass : (bytes : List ℕ) (client : ℕ) (rest : List ℕ) (number : ℕ) → length rest ≡ 0 → Follows (meanings K bytes) client (meanings K rest) number → RefusesNone K bytes
+  all-pass bytes client rest number e h i r = h.passes (empty-passes client rest e) i (as-barred (meanings K bytes) i r)
 
   -- what stands in a list that is made of some items was made of one
   made-of : {X : Type 0} (f : X → Option (Line K)) (xs : List X) (l : Line K) → Contains (filter_map f xs) l → (x : X) × (f x ≡ Some l)
@@ -121,20 +143,29 @@ module _ {K : ℕ} where
       by (Some m) e (zero, p, q) rest = (x, e ∙ ap Some q)
       by (Some m) e (suc k, p, q) rest = rest (k, omega (arith, p), q)
 
-  -- no line of a script is untaken where all lines are taken
-  pub none-untaken : (bytes : List ℕ) (asked : List (Line K)) (l : Line K) → length bytes ≤ longest → lines K bytes ≡ Ok asked → TakesAll K bytes → Contains asked l → is_taken l ≡ false → ⊥
-  none-untaken bytes asked l short read all c none =
+  line-is : (client : ℕ) (m : Meaning K) (l : Line K) → line_of client m ≡ Some l → IsFalse (is_taken l) → Refuses client m
+  line-is client Silent l e f = absurd (some-not-none l e)
+  line-is client (Speaks c) l e f = absurd (some-not-none l e)
+  line-is client (Asks r) l e f = subst (λ x. IsFalse (is_taken x)) (sym (one-value (record { client = client; request = r }) l e)) f
+  line-is client Bad l e f = tt
+
+  -- a line that asks what is not taken is refused
+  untaken-refused : (ms : List (Meaning K)) (i : ℕ) (l : Line K) → line_at ms i ≡ Some l → IsFalse (is_taken l) → IsRefused ms i
+  untaken-refused ms i l e f = by (slice_get ms i) refl
+    where
+      by : (o : Option (Meaning K)) → slice_get ms i ≡ o → IsRefused ms i
+      by None p = absurd (some-not-none l (sym (ap (λ x. option_and_then (line_of (speaker_at ms i)) x) p) ∙ e))
+      by (Some m) p = record { says = m; there = p; refused = line-is (speaker_at ms i) m l (sym (ap (λ x. option_and_then (line_of (speaker_at ms i)) x) p) ∙ e) f }
+
+  -- a script with a line that is not taken has one that is refused
+  pub untaken-bars : (bytes : List ℕ) (asked : List (Line K)) (l : Line K) → length bytes ≤ longest → lines K bytes ≡ Ok asked → Contains asked l → IsFalse (is_taken l) → RefusesNone K bytes → ⊥
+  untaken-bars bytes asked l short read c f none =
       let made = made-of (line_at (meanings K bytes)) (below (length (meanings K bytes))) l (subst (λ ls. Contains ls l) (((one-script {K = K}).whole bytes asked short).0 read).1 c) in
-      true≢false (sym (all made.0 l made.1) ∙ none)
+      none made.0 (untaken-refused (meanings K bytes) made.0 l made.1 f)
 
-  empty-takes : (client : ℕ) (rest : List ℕ) → length rest ≡ 0 → Takes client (meanings K rest)
-  unfolding lines_of
-  empty-takes client [] h = takes-none client
-  empty-takes client (b ∷ rest) h = absurd (omega (arith, h))
-
-  -- where nothing is left, all lines are taken
-  pub all-taken : (bytes : List ℕ) (client : ℕ) (rest : List ℕ) (number : ℕ) → length rest ≡ 0 → Follows (meanings K bytes) client (meanings K rest) number → TakesAll K bytes
-  all-taken bytes client rest number e h = h.takes (empty-takes client rest e)
+  -- a text that is no script of the grammar has a line that is refused
+  pub fault-bars : (bytes : List ℕ) (n : ℕ) → length bytes ≤ longest → lines K bytes ≡ Err n → RefusesNone K bytes → ⊥
+  fault-bars bytes n short e none = none (n - 1) (record { says = Bad; there = (((one-script {K = K}).fault bytes n short).0 e).bad; refused = tt })
 
   -- a text that is read is short enough
   pub read-short : (bytes : List ℕ) (asked : List (Line K)) → lines K bytes ≡ Ok asked → length bytes ≤ longest
@@ -157,46 +188,55 @@ module _ {K : ℕ} where
   few-asked bytes asked e =
       omega (arith, ap length (((one-script {K = K}).whole bytes asked (read-short bytes asked e)).0 e).1, made-few (line_at (meanings K bytes)) (below (length (meanings K bytes))), length-range_with_len 0 (length (meanings K bytes)), length-map (lines_of bytes) (meaning K), few-lines bytes)
 
-  there-is : (ms : List (Meaning K)) (i : ℕ) (l : Line K) → line_at ms i ≡ Some l → i < length ms
-  there-is ms i l e = by (slice_get ms i) refl
-    where
-      by : (o : Option (Meaning K)) → slice_get ms i ≡ o → i < length ms
-      by None p = absurd (true≢false (sym (ap is_some (sym (ap (λ x. option_and_then (line_of (speaker_at ms i)) x) p) ∙ e))))
-      by (Some m) p = got-inside ms i m p
-
   is-made : (f : ℕ → Option (Line K)) (a n i : ℕ) (l : Line K) → a ≤ i → i < a + n → f i ≡ Some l → Contains (filter_map f (range_with_len a n)) l
   is-made f a zero i l p q e = absurd (omega (arith, p, q))
   is-made f a (suc n) i l p q e = by (a == i) refl (is-made f (a + 1) n i l)
     where
-      behind : (o : Option (Line K)) → Contains (filter_map f (range_with_len (a + 1) n)) l → Contains (cons_option o (filter_map f (range_with_len (a + 1) n))) l
-      behind None c = c
-      behind (Some m) c = (suc c.0, omega (arith, c.1), c.2)
+      after : (o : Option (Line K)) → Contains (filter_map f (range_with_len (a + 1) n)) l → Contains (cons_option o (filter_map f (range_with_len (a + 1) n))) l
+      after None c = c
+      after (Some m) c = (suc c.0, omega (arith, c.1), c.2)
 
       first : (o : Option (Line K)) → o ≡ Some l → Contains (cons_option o (filter_map f (range_with_len (a + 1) n))) l
-      first None g = absurd (true≢false (sym (ap is_some g)))
+      first None g = absurd (some-not-none l g)
       first (Some m) g = (zero, omega arith, one-value m l g)
 
       by : (t : Bool) → (a == i) ≡ t → (a + 1 ≤ i → i < a + 1 + n → f i ≡ Some l → Contains (filter_map f (range_with_len (a + 1) n)) l) → Contains (cons_option (f a) (filter_map f (range_with_len (a + 1) n))) l
       by true g rest = first (f a) (ap f (eqb-true a i g) ∙ e)
-      by false g rest = behind (f a) (rest (grind (arith, p, g)) (omega (arith, q)) e)
+      by false g rest = after (f a) (rest (grind (arith, p, g)) (omega (arith, q)) e)
 
   -- a line of a script is taken
   taken-one : (asked : List (Line K)) (l : Line K) → AreTaken asked → Contains asked l → IsTrue (is_taken l)
   taken-one asked l each c = subst (λ x. IsTrue (is_taken x)) c.2 (each c.0 l c.1)
 
+  -- no line of a script is refused
+  none-refused : (bytes : List ℕ) (asked : List (Line K)) → IsScript bytes asked → RefusesNone K bytes
+  none-refused bytes asked s i r = by r.says r.there r.refused
+    where
+      ms : List (Meaning K)
+      ms = meanings K bytes
+
+      says : ((j : ℕ) → slice_get ms j ≡ Some Bad → ⊥) × (asked ≡ filter_map (line_at ms) (below (length ms)))
+      says = ((one-script {K = K}).whole bytes asked (read-short bytes asked s.read)).0 s.read
+
+      by : (m : Meaning K) → slice_get ms i ≡ Some m → Refuses (speaker_at ms i) m → ⊥
+      by Silent e f = f
+      by (Speaks c) e f = f
+      by Bad e f = says.0 i e
+      by (Asks q) e f =
+          let l : Line K = record { client = speaker_at ms i; request = q } in
+          let listed = is-made (line_at ms) 0 (length ms) i l (omega arith) (omega (arith, got-inside ms i (Asks q) e)) (ap (λ x. option_and_then (line_of (speaker_at ms i)) x) e) in
+          true≢false (sym (taken-one asked l s.taken (subst (λ ls. Contains ls l) (sym says.1) listed)) ∙ f)
+
   -- a script has no fault
   pub script-sound : (bytes : List ℕ) (asked : List (Line K)) (n : ℕ) → IsScript bytes asked → IsFault K bytes n → ⊥
-  script-sound bytes asked n s (inl e) = ok-not-err asked n (sym s.read ∙ e)
-  script-sound bytes asked n s (inr u) =
-      let listed = is-made (line_at (meanings K bytes)) 0 (length (meanings K bytes)) (n - 1) u.first.line (omega arith) (omega (arith, there-is (meanings K bytes) (n - 1) u.first.line u.first.there)) u.first.there in
-      let inside = subst (λ ls. Contains ls u.first.line) (sym (((one-script {K = K}).whole bytes asked (read-short bytes asked s.read)).0 s.read).1) listed in
-      true≢false (sym (taken-one asked u.first.line s.taken inside) ∙ u.first.untaken)
+  script-sound bytes asked n s (inl long) = absurd (omega (arith, long.0, read-short bytes asked s.read))
+  script-sound bytes asked n s (inr first) = none-refused bytes asked s (n - 1) first.1.refused
 
-  -- of two lines the earlier is taken, where the other is the first that is not
-  not-before : (bytes : List ℕ) (n m : ℕ) → FirstUntaken K bytes n → FirstUntaken K bytes m → n < m → ⊥
-  not-before bytes n m f g lt = true≢false (sym (g.before (n - 1) f.line (omega (arith, f.some, lt)) f.there) ∙ f.untaken)
+  -- of two lines the earlier is not refused, where the other is the first that is
+  not-before : (bytes : List ℕ) (n m : ℕ) → IsFirstRefused K bytes n → IsFirstRefused K bytes m → n < m → ⊥
+  not-before bytes n m f g lt = g.first (n - 1) (omega (arith, f.some, lt)) f.refused
 
-  first-one : (bytes : List ℕ) (n m : ℕ) → FirstUntaken K bytes n → FirstUntaken K bytes m → n ≡ m
+  first-one : (bytes : List ℕ) (n m : ℕ) → IsFirstRefused K bytes n → IsFirstRefused K bytes m → n ≡ m
   first-one bytes n m f g = by (n == m) refl
     where
       by : (t : Bool) → (n == m) ≡ t → n ≡ m
@@ -205,16 +245,7 @@ module _ {K : ℕ} where
 
   -- a text has one fault at most
   pub fault-one : (bytes : List ℕ) (n m : ℕ) → IsFault K bytes n → IsFault K bytes m → n ≡ m
-  fault-one bytes n m (inl e) (inl f) = ap (error-or n) (sym e ∙ f)
-  fault-one bytes n m (inl e) (inr u) = absurd (ok-not-err u.asked n (sym u.read ∙ e))
-  fault-one bytes n m (inr u) (inl f) = absurd (ok-not-err u.asked m (sym u.read ∙ f))
-  fault-one bytes n m (inr u) (inr v) = first-one bytes n m u.first v.first
-
-  -- a line that the program does not take is a fault of a text of the grammar
-  pub untaken-fault : (bytes : List ℕ) (asked : List (Line K)) (number n : ℕ) → lines K bytes ≡ Ok asked → FirstUntaken K bytes number → number ≡ n → IsFault K bytes n
-  untaken-fault bytes asked number n e first same = inr (record { asked = asked; read = e; first = subst (FirstUntaken K bytes) same first })
-
--- the line that a fault names
-abbrev pub line-or : ScriptFault → ℕ
-line-or (fault.Line n) = n
-line-or fault.NoMemory = 0
+  fault-one bytes n m (inl a) (inl b) = a.1 ∙ sym b.1
+  fault-one bytes n m (inl a) (inr b) = absurd (omega (arith, a.0, b.0))
+  fault-one bytes n m (inr a) (inl b) = absurd (omega (arith, a.0, b.0))
+  fault-one bytes n m (inr a) (inr b) = first-one bytes n m a.1 b.1

@@ -1,10 +1,10 @@
--- What the program of today takes of a script: the puts and gets of client 1. Any other line that asks something is a fault. Each later command comes in here.
-use Rattle.std.specs.Prelude.{◌≡◌, ◌<◌, ◌≤◌, ◌⊎◌, ◌==◌, ◌-◌, ◌+◌, ℕ, List, Bool, true, false, ◌&&◌, Option, Some, Ok, Err, IsTrue, All}
+-- What the program of today takes of a script: the puts and gets of client 1. It refuses any other line that asks something. Each later command comes in here.
+use Rattle.std.specs.Prelude.{◌≡◌, ◌<◌, ◌≤◌, ◌⊎◌, ◌==◌, ◌-◌, ◌+◌, ℕ, List, Bool, true, false, ◌&&◌, Some, Ok, IsTrue, IsFalse, All, length, slice_get, ⊤}
 use Rattle.grid_types.specs.declared.request.Line.{Line}
 use Rattle.grid_types.specs.declared.request.Request.{Request}
 use Rattle.grid_types.specs.declared.request.Request.TheVariants as ask
-use Rattle.grid_model.specs.Script.{lines, meanings}
-use Rattle.grid_model.specs.ScriptLaws.{line_at}
+use Rattle.grid_model.specs.Script.{Meaning, Silent, Speaks, Asks, Bad, longest, lines, meanings}
+use Rattle.grid_model.specs.ScriptLaws.{speaker_at}
 
 -- a put or a get
 abbrev pub is_point : {K : ℕ} → Request K → Bool
@@ -29,28 +29,29 @@ pub record IsScript {K : ℕ} (bytes : List ℕ) (asked : List (Line K)) : Type 
   pub read : lines K bytes ≡ Ok asked
   pub taken : AreTaken asked
 
--- line n, counted from 1, is the first that asks what the program does not take
-pub record FirstUntaken (K : ℕ) (bytes : List ℕ) (n : ℕ) : Type 0 where
+-- the program refuses a line of this client: it is nothing of the grammar, or it asks what the program does not take
+abbrev pub Refuses : {K : ℕ} → ℕ → Meaning K → Type 0
+Refuses client Silent = ⊥
+Refuses client (Speaks c) = ⊥
+Refuses client (Asks r) = IsFalse (is_taken (record { client = client; request = r }))
+Refuses client Bad = ⊤
+
+-- the program refuses line i, counted from 0, as a line of the client that speaks there
+pub record IsRefused {K : ℕ} (ms : List (Meaning K)) (i : ℕ) : Type 0 where
+  pub says : Meaning K
+  pub there : slice_get ms i ≡ Some says
+  pub refused : Refuses (speaker_at ms i) says
+
+-- line n of a text, counted from 1, is the first that the program refuses
+pub record IsFirstRefused (K : ℕ) (bytes : List ℕ) (n : ℕ) : Type 0 where
   pub some : 1 ≤ n
-  pub line : Line K
-  pub there : line_at (meanings K bytes) (n - 1) ≡ Some line
-  pub untaken : is_taken line ≡ false
-  pub before : (i : ℕ) (l : Line K) → i + 1 < n → line_at (meanings K bytes) i ≡ Some l → IsTrue (is_taken l)
+  pub refused : IsRefused (meanings K bytes) (n - 1)
+  pub first : (i : ℕ) → i + 1 < n → IsRefused (meanings K bytes) i → ⊥
 
--- a text of the grammar has a fault at a line that the program does not take
-pub record IsUntakenAt (K : ℕ) (bytes : List ℕ) (n : ℕ) : Type 0 where
-  pub asked : List (Line K)
-  pub read : lines K bytes ≡ Ok asked
-  pub first : FirstUntaken K bytes n
-
--- the fault of a text that is no script of the program: that of the grammar, which is 0 where there are too many bytes, and where there is none the first line that the program does not take
+-- a text has a fault at line n: it has too many bytes, which is line 0, or else line n is the first that the program refuses
 abbrev pub IsFault : ℕ → List ℕ → ℕ → Type 0
-IsFault K bytes n = (lines K bytes ≡ Err n) ⊎ IsUntakenAt K bytes n
+IsFault K bytes n = ((longest < length bytes) × (n ≡ 0)) ⊎ ((length bytes ≤ longest) × IsFirstRefused K bytes n)
 
--- the program takes each line of a text that asks something
-abbrev pub TakesAll : ℕ → List ℕ → Type 0
-TakesAll K bytes = (i : ℕ) (l : Line K) → line_at (meanings K bytes) i ≡ Some l → IsTrue (is_taken l)
-
--- a line asks nothing, or what the program takes
-abbrev pub Passes : {K : ℕ} → Option (Line K) → Type 0
-Passes {K} o = (l : Line K) → o ≡ Some l → IsTrue (is_taken l)
+-- the program refuses no line of a text
+abbrev pub RefusesNone : ℕ → List ℕ → Type 0
+RefusesNone K bytes = (i : ℕ) → IsRefused (meanings K bytes) i → ⊥

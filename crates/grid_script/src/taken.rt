@@ -1,18 +1,18 @@
 //! What the program of today takes of a script: the puts and gets of client 1. Once the program takes every command,
 //! `read_script` alone is left.
-ghost use Rattle.std.specs.Prelude.{◌≡◌, ◌≤◌, ◌↔◌, ℕ, List, length, Some, Contains, IsTrue, IsFalse, false, IfOk, IfSome, IfNone, IsErrOf};
+ghost use Rattle.std.specs.Prelude.{◌≡◌, ◌<◌, ◌≤◌, ◌↔◌, ℕ, List, length, Contains, IsTrue, IsFalse, IfOk, IfSome, IfNone, IsErrOf};
 ghost use Rattle.grid_types.specs.declared.request.Line.{Line};
-ghost use Rattle.grid_model.specs.Script.{meaning};
-ghost use Rattle.grid_model.specs.ScriptLaws.{speaker, line_of};
-ghost use Rattle.grid_script.specs.Taken.{is_point, is_taken, AreTaken, IsScript, IsFault, FirstUntaken, TakesAll, Passes};
+ghost use Rattle.grid_model.specs.Script.{meaning, longest};
+ghost use Rattle.grid_model.specs.ScriptLaws.{speaker};
+ghost use Rattle.grid_script.specs.Taken.{is_point, is_taken, AreTaken, IsScript, IsFault, IsFirstRefused, Refuses, RefusesNone};
 ghost use Rattle.grid_script.specs.declared.script.ScriptFault.TheVariants as fault;
 
 use crate::lines::first_line;
 use crate::reader::meanings::{Said, meaning_of};
 use crate::reader::read_script;
-use crate::script::{Script, ScriptFault};
+use crate::script::{Script, ScriptFault, is_too_long};
 use grid_types::{Line, Request};
-use std::alloc::Global;
+use std::alloc::{AllocError, Global};
 
 /// Whether a request is a put or a get.
 fn is_point<const K: usize>(request: &Request<K>) -> bool
@@ -39,7 +39,7 @@ fn is_taken<const K: usize>(line: &Line<K>) -> bool
 /// Whether the program takes each of some lines.
 fn are_taken<const K: usize>(lines: &[Line<K>]) -> bool
     ensures taken { IsTrue result → AreTaken lines.now }
-    ensures untaken { IsFalse result → (line : Line K) × Contains lines.now line × (is_taken line ≡ false) }
+    ensures untaken { IsFalse result → (line : Line K) × Contains lines.now line × IsFalse (is_taken line) }
 {
     for line in lines {
         if !is_taken(line) {
@@ -49,38 +49,38 @@ fn are_taken<const K: usize>(lines: &[Line<K>]) -> bool
     true
 }
 
-/// Whether the program takes what a line asks, if it asks anything; `client` is who speaks, before the line and behind it.
-fn passes<const K: usize>(client: &mut u32, line: &[u8]) -> bool
+/// Whether the program refuses a line; `client` is who speaks, before the line and behind it.
+fn refuses<const K: usize>(client: &mut u32, line: &[u8]) -> bool
     requires few { K ≤ 4 }
     ensures speaker { client.new ≡ speaker client.old (meaning K line.now) }
-    ensures passes { IsTrue result → Passes (line_of client.old (meaning K line.now)) }
-    ensures untaken { result ≡ false → (l : Line K) × (line_of client.old (meaning K line.now) ≡ Some l) × (is_taken l ≡ false) }
+    ensures refused { IsTrue result ↔ Refuses client.old (meaning K line.now) }
 {
     match meaning_of::<K>(line) {
-        Said::Silent | Said::Bad => true,
+        Said::Silent => false,
+        Said::Bad => true,
         Said::Speaks(other) => {
             *client = other;
-            true
+            false
         }
         Said::Asks(request) => {
             let client = *client;
-            is_taken(&Line { client, request })
+            !is_taken(&Line { client, request })
         }
     }
 }
 
-/// The number of the first line that asks what the program does not take.
-fn first_untaken<const K: usize>(bytes: &[u8]) -> Option<u64>
+/// The number of the first line that the program refuses.
+fn first_refused<const K: usize>(bytes: &[u8]) -> Option<u64>
     requires few { K ≤ 4 }
-    ensures found { IfSome result (λ n. FirstUntaken K bytes.now n) }
-    ensures none { IfNone result (TakesAll K bytes.now) }
+    ensures found { IfSome result (IsFirstRefused K bytes.now) }
+    ensures none { IfNone result (RefusesNone K bytes.now) }
 {
     let mut rest = bytes;
     let mut client = 1;
     let mut number = 1;
     while !rest.is_empty() {
         let (line, after) = first_line(rest);
-        if !passes::<K>(&mut client, line) {
+        if refuses::<K>(&mut client, line) {
             return Some(number);
         }
         rest = after;
@@ -89,24 +89,46 @@ fn first_untaken<const K: usize>(bytes: &[u8]) -> Option<u64>
     None
 }
 
-/// The script that the bytes write, where the program takes each of its lines. The grammar of all lines is judged first.
-pub fn read_taken<const K: usize>(alloc: Global, bytes: &[u8]) -> Result<Script<K>, ScriptFault>
+/// The script that the bytes write, none where the program refuses a line.
+fn read_lines<const K: usize>(alloc: Global, bytes: &[u8]) -> Result<Option<Script<K>>, AllocError>
     requires some { 1 ≤ K }
     requires few { K ≤ 4 }
-    ensures read { IfOk result (λ s. IsScript bytes.now s) }
-    ensures count { IfOk result (λ s. length s ≤ length bytes.now) }
-    ensures fault { (n : ℕ) → IsErrOf result (fault.Line n) → IsFault K bytes.now n }
+    requires short { length bytes.now ≤ longest }
+    ensures read { IfOk result (λ o. IfSome o (IsScript bytes.now)) }
+    ensures count { IfOk result (λ o. IfSome o (λ s. length s ≤ length bytes.now)) }
+    ensures refused { IfOk result (λ o. IfNone o (RefusesNone K bytes.now → ⊥)) }
 {
     let script = match read_script::<K>(alloc, bytes) {
         Ok(script) => script,
-        Err(fault) => return Err(fault),
+        Err(ScriptFault::NoMemory) => return Err(AllocError),
+        Err(ScriptFault::Line(_)) => return Ok(None),
     };
     if are_taken(script.lines()) {
-        return Ok(script);
+        return Ok(Some(script));
     }
-    match first_untaken::<K>(bytes) {
-        Some(number) => Err(ScriptFault::Line(number)),
-        None => unreachable!(),
+    Ok(None)
+}
+
+/// The script that the bytes write, or their first line that the program refuses. A text that is too long is line 0, before
+/// any memory is taken and any line is read.
+pub fn read_taken<const K: usize>(alloc: Global, bytes: &[u8]) -> Result<Script<K>, ScriptFault>
+    requires some { 1 ≤ K }
+    requires few { K ≤ 4 }
+    ensures read { IfOk result (IsScript bytes.now) }
+    ensures count { IfOk result (λ s. length s ≤ length bytes.now) }
+    ensures fault { (n : ℕ) → IsErrOf result (fault.Line n) → IsFault K bytes.now n }
+    ensures no_memory { IsErrOf result fault.NoMemory → length bytes.now ≤ longest }
+{
+    if is_too_long(bytes) {
+        return Err(ScriptFault::Line(0));
+    }
+    match read_lines::<K>(alloc, bytes) {
+        Ok(Some(script)) => Ok(script),
+        Ok(None) => match first_refused::<K>(bytes) {
+            Some(number) => Err(ScriptFault::Line(number)),
+            None => unreachable!(),
+        },
+        Err(AllocError) => Err(ScriptFault::NoMemory),
     }
 }
 

@@ -1,7 +1,7 @@
 use Rattle.std.proofs.Common.{◌≤◌, ◌+◌, length}
 use Rattle.grid_model.specs.Script.{meanings}
 use Rattle.grid_script.proofs.Taking.{Follows}
-use Rattle.grid_script.proofs.taken.first_untaken.Given as goal
+use Rattle.grid_script.proofs.taken.first_refused.Given as goal
 
 abbrev pub decreases-loop-rest : goal.decreases-loop-rest
 decreases-loop-rest g l = length l.rest
