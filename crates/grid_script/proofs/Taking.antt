@@ -229,8 +229,7 @@ module _ {K : ℕ} where
 
   -- a script has no fault
   pub script-sound : (bytes : List ℕ) (asked : List (Line K)) (n : ℕ) → IsScript bytes asked → IsFault K bytes n → ⊥
-  script-sound bytes asked n s (inl long) = absurd (omega (arith, long.0, read-short bytes asked s.read))
-  script-sound bytes asked n s (inr first) = none-refused bytes asked s (n - 1) first.1.refused
+  script-sound bytes asked n s f = none-refused bytes asked s (n - 1) (f.short (read-short bytes asked s.read)).refused
 
   -- of two lines the earlier is not refused, where the other is the first that is
   not-before : (bytes : List ℕ) (n m : ℕ) → IsFirstRefused K bytes n → IsFirstRefused K bytes m → n < m → ⊥
@@ -245,7 +244,12 @@ module _ {K : ℕ} where
 
   -- a text has one fault at most
   pub fault-one : (bytes : List ℕ) (n m : ℕ) → IsFault K bytes n → IsFault K bytes m → n ≡ m
-  fault-one bytes n m (inl a) (inl b) = a.1 ∙ sym b.1
-  fault-one bytes n m (inl a) (inr b) = absurd (omega (arith, a.0, b.0))
-  fault-one bytes n m (inr a) (inl b) = absurd (omega (arith, a.0, b.0))
-  fault-one bytes n m (inr a) (inr b) = first-one bytes n m a.1 b.1
+  fault-one bytes n m f g = by (nat_le (length bytes) longest) refl
+    where
+      by : (t : Bool) → nat_le (length bytes) longest ≡ t → n ≡ m
+      by true e =
+          let short : length bytes ≤ longest = leb-true (length bytes) longest e in
+          first-one bytes n m (f.short short) (g.short short)
+      by false e =
+          let long : longest < length bytes = omega (arith, leb-false (length bytes) longest e) in
+          f.long long ∙ sym (g.long long)

@@ -1,5 +1,5 @@
 -- What the program of today takes of a script: the puts and gets of client 1. It refuses any other line that asks something. Each later command comes in here.
-use Rattle.std.specs.Prelude.{◌≡◌, ◌<◌, ◌≤◌, ◌⊎◌, ◌==◌, ◌-◌, ◌+◌, ℕ, List, Bool, true, false, ◌&&◌, Some, Ok, IsTrue, IsFalse, All, length, slice_get, ⊤}
+use Rattle.std.specs.Prelude.{◌≡◌, ◌<◌, ◌≤◌, ◌==◌, ◌-◌, ◌+◌, ℕ, List, Bool, true, false, ◌&&◌, Some, Ok, IsTrue, IsFalse, All, length, slice_get, ⊤}
 use Rattle.grid_types.specs.declared.request.Line.{Line}
 use Rattle.grid_types.specs.declared.request.Request.{Request}
 use Rattle.grid_types.specs.declared.request.Request.TheVariants as ask
@@ -48,9 +48,10 @@ pub record IsFirstRefused (K : ℕ) (bytes : List ℕ) (n : ℕ) : Type 0 where
   pub refused : IsRefused (meanings K bytes) (n - 1)
   pub first : (i : ℕ) → i + 1 < n → IsRefused (meanings K bytes) i → ⊥
 
--- a text has a fault at line n: it has too many bytes, which is line 0, or else line n is the first that the program refuses
-abbrev pub IsFault : ℕ → List ℕ → ℕ → Type 0
-IsFault K bytes n = ((longest < length bytes) × (n ≡ 0)) ⊎ ((length bytes ≤ longest) × IsFirstRefused K bytes n)
+-- a text has its fault at line n: at line 0 where it has too many bytes, and else at the first line that the program refuses
+pub record IsFault (K : ℕ) (bytes : List ℕ) (n : ℕ) : Type 0 where
+  pub long : longest < length bytes → n ≡ 0
+  pub short : length bytes ≤ longest → IsFirstRefused K bytes n
 
 -- the program refuses no line of a text
 abbrev pub RefusesNone : ℕ → List ℕ → Type 0

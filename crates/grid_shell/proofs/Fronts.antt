@@ -1,12 +1,11 @@
 -- A script, and the front of the input that is read of it: one byte more than a script may have.
-use Rattle.std.proofs.Common.{◌≡◌, ◌≤◌, ◌<◌, ◌∙◌, inl, inr, ℕ, Bool, true, false, List, length, take, refl, sym, ap, subst, arith, nat_lt, ltb-false, ltb-true}
+use Rattle.std.proofs.Common.{◌≡◌, ◌≤◌, ◌<◌, ◌∙◌, ℕ, Bool, true, false, List, length, take, refl, sym, ap, subst, arith, nat_lt, ltb-false, ltb-true}
 use Rattle.std.specs.Prelude.{Ok, Err, if◌then◌else◌}
 use Rattle.std.proofs.lemmas.Bool.{lt-ltb}
 use Rattle.std.proofs.lemmas.List.{length-take, take_all}
 use Rattle.grid_types.specs.declared.request.Line.{Line}
 use Rattle.grid_model.specs.Script.{longest, lines, asked, meanings}
-use Rattle.grid_script.specs.Taken.{IsScript, FirstUntaken, IsFault}
-use Rattle.grid_script.proofs.Taking.{read-short}
+use Rattle.grid_script.specs.Taken.{IsScript, IsFirstRefused, IsFault}
 
 -- the most that is read
 abbrev pub most : ℕ
@@ -15,10 +14,6 @@ most = 16777217
 more_than_longest : longest < most
 unfolding longest
 more_than_longest = omega arith
-
-at_most : (n : ℕ) → n < most → n ≤ longest
-unfolding longest
-at_most n lt = omega (arith, lt)
 
 whole : (all : List ℕ) → length all ≤ longest → take most all ≡ all
 whole all le = take_all most all (omega (arith, le, more_than_longest))
@@ -43,13 +38,8 @@ lines_read K all = by (nat_lt longest (length all)) refl
 pub script_read : {K : ℕ} (all : List ℕ) (ls : List (Line K)) → IsScript (take most all) ls → IsScript all ls
 script_read {K} all ls s = record { read = sym (lines_read K all) ∙ s.read; taken = s.taken }
 
-short_all : (K : ℕ) (all : List ℕ) (ls : List (Line K)) → lines K (take most all) ≡ Ok ls → length all ≤ longest
-short_all K all ls e = read-short all ls (sym (lines_read K all) ∙ e)
-
 pub fault_read : (K : ℕ) (all : List ℕ) (n : ℕ) → IsFault K (take most all) n → IsFault K all n
-fault_read K all n (inl e) = inl (sym (lines_read K all) ∙ e)
-fault_read K all n (inr u) = inr (record {
-  asked = u.asked;
-  read = sym (lines_read K all) ∙ u.read;
-  first = subst (λ bytes. FirstUntaken K bytes n) (whole all (short_all K all u.asked u.read)) u.first;
-})
+fault_read K all n f = record {
+  long = λ lt. f.long (long_front all lt);
+  short = λ le. subst (λ bytes. IsFirstRefused K bytes n) (whole all le) (f.short (subst (λ bytes. length bytes ≤ longest) (sym (whole all le)) le));
+}

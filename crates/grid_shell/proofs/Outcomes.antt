@@ -30,11 +30,6 @@ pub line_of_end : (f : ScriptFault) (n : ℕ) → fault_end f ≡ BadScript n �
 line_of_end (fault.Line m) n e = let same : m ≡ n = cc in ap fault.Line same
 line_of_end fault.NoMemory n e = cc
 
--- a script without a fault is not read only for want of memory
-pub memory_of_end : (f : ScriptFault) → ((n : ℕ) → f ≡ fault.Line n → ⊥) → fault_end f ≡ Memory
-memory_of_end (fault.Line n) none = absurd (none n refl)
-memory_of_end fault.NoMemory none = refl
-
 -- status 3 is that of a faulty script
 pub status_three : (e : Ending) → status_of e ≡ 3 → (n : ℕ) × (e ≡ BadScript n)
 status_three Done h = absurd (omega (arith, h))
@@ -48,31 +43,16 @@ status_three Refused h = absurd (omega (arith, h))
 pub words_are_no_script : (e : Ending) (n : ℕ) → e ≡ BadWords → e ≡ BadScript n → ⊥
 words_are_no_script e n w s = let same : BadWords ≡ BadScript n = sym w ∙ s in cc
 
--- a call failed, or what it says where it did not holds
-pub failed_or : {T E P Q : Type 0} (r : Result T E) → OnErr r P → OnOk r Q → P ⊎ Q
-failed_or (Ok x) p q = inr q
-failed_or (Err e) p q = inl p
+faulty_script : (e : Ending) (n : ℕ) → with_fault_of e ≡ BadScript n → e ≡ BadScript n
+faulty_script Done n h = cc
+faulty_script BadWords n h = cc
+faulty_script (BadScript m) n h = h
+faulty_script Damaged n h = cc
+faulty_script Device n h = cc
+faulty_script Memory n h = cc
+faulty_script Refused n h = cc
 
--- a run that ends well has no fault
-pub fault_is_not_done : (e : Ending) → with_fault_of e ≡ Done → ⊥
-fault_is_not_done Done h = cc
-fault_is_not_done BadWords h = cc
-fault_is_not_done (BadScript n) h = cc
-fault_is_not_done Damaged h = cc
-fault_is_not_done Device h = cc
-fault_is_not_done Memory h = cc
-fault_is_not_done Refused h = cc
-
-pub unread_is_not_done : (f : ScriptFault) → fault_end f ≡ Done → ⊥
-unread_is_not_done (fault.Line n) h = cc
-unread_is_not_done fault.NoMemory h = cc
-
--- status 0 is that of a run that ends well
-pub status_zero : (e : Ending) → status_of e ≡ 0 → e ≡ Done
-status_zero Done h = refl
-status_zero BadWords h = absurd (omega (arith, h))
-status_zero (BadScript m) h = absurd (omega (arith, h))
-status_zero Damaged h = absurd (omega (arith, h))
-status_zero Device h = absurd (omega (arith, h))
-status_zero Memory h = absurd (omega (arith, h))
-status_zero Refused h = absurd (omega (arith, h))
+-- a fault of the script was that before a device failed too
+pub script_before : (e r : Ending) (n : ℕ) → (r ≡ e) ⊎ (r ≡ with_fault_of e) → r ≡ BadScript n → e ≡ BadScript n
+script_before e r n (inl same) is = sym same ∙ is
+script_before e r n (inr fault) is = faulty_script e n (sym fault ∙ is)

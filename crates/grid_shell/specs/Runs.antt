@@ -1,5 +1,5 @@
 -- What a run over one bucket prints and leaves.
-use Rattle.std.specs.Prelude.{◌≡◌, ◌≢◌, ◌⊎◌, ◌<◌, ◌≤◌, ◌++◌, ◌∷◌, [], ℕ, List, drop, max, ⊤}
+use Rattle.std.specs.Prelude.{◌≡◌, ◌≢◌, ◌⊎◌, ◌<◌, ◌≤◌, ◌+◌, ◌++◌, ◌∷◌, [], ℕ, List, drop, max, ⊤}
 use Rattle.grid_types.specs.declared.request.Line.{Line}
 use Rattle.grid_types.specs.declared.request.Request.{Request}
 use Rattle.grid_types.specs.declared.request.Request.TheVariants as ask
@@ -8,6 +8,7 @@ use Rattle.grid_types.specs.declared.request.Reply.TheVariants as reply
 use Rattle.grid_types.specs.declared.refusal.Refusal.{Refusal}
 use Rattle.grid_types.specs.declared.refusal.Refusal.TheVariants.{Damaged, NoCut, Worn}
 use Rattle.grid_model.specs.Lone.{State, answers, afterwards}
+use Rattle.grid_model.specs.Script.{longest}
 use Rattle.grid_model.specs.Text.{Group, text}
 use Rattle.grid_model.specs.Transcripts.{requests, groups}
 use Rattle.disk_trait.specs.Causes.{Rose}
@@ -16,7 +17,7 @@ use Rattle.grid_script.specs.Taken.{IsFault}
 use Rattle.grid_shell.specs.declared.ending.Ending.{Ending}
 use Rattle.grid_shell.specs.declared.ending.Ending.TheVariants.{BadScript}
 use Rattle.grid_shell.specs.Endings.{worst_of, status_of, error_text}
-use Rattle.grid_shell.specs.Standing.{undivided, begun, StandsFor}
+use Rattle.grid_shell.specs.Standing.{undivided, begun, worn_at, StandsFor, Answers, HoldsPut, IsDamaged, IsFull}
 
 -- the lone caller's answers to some lines, begun from the empty table
 unfoldable pub told : {K : ℕ} → ℕ → List (Line K) → List (Reply K)
@@ -47,6 +48,18 @@ IsReplyTo (ask.Put r) (reply.Refused e) = MayRefusePut e
 IsReplyTo (ask.Get k) (reply.Got a) = ⊤
 IsReplyTo (ask.Get k) (reply.Refused e) = e ≡ Damaged 0
 IsReplyTo _ _ = ⊥
+
+-- a page says that a put is refused: it is damaged for the key, or its bucket is full for it; or the file is worn, whatever the page says
+abbrev pub JudgesPut : ℕ → ℕ → List ℕ → List ℕ → Refusal → Type 0
+JudgesPut K capacity page key e = ((e ≡ Damaged 0) × IsDamaged K capacity page key) ⊎ ((e ≡ NoCut 1 0) × IsFull K capacity page key) ⊎ ((n : ℕ) × (e ≡ Worn n) × (worn_at ≤ n))
+
+-- a reply is what a page says of a request: the data at the key of a get, that the page holds a put, or why it refuses
+abbrev pub Judges : {K : ℕ} → ℕ → List ℕ → Request K → Reply K → Type 0
+Judges {K} capacity page (ask.Get k) (reply.Got a) = Answers K capacity page k.at a.value
+Judges {K} capacity page (ask.Get k) (reply.Refused e) = (e ≡ Damaged 0) × IsDamaged K capacity page k.at
+Judges {K} capacity page (ask.Put r) (reply.Put a) = HoldsPut K capacity page r.key.at r.value a.value
+Judges {K} capacity page (ask.Put r) (reply.Refused e) = JudgesPut K capacity page r.key.at e
+Judges _ _ _ _ = ⊥
 
 -- there is one reply of its kind to each line, in order
 abbrev pub AreRepliesTo : {K : ℕ} → List (Line K) → List (Reply K) → Type 0
@@ -93,6 +106,10 @@ OneHigher (c ∷ cs) = (c.0 < c.1) ⊎ OneHigher cs
 pub record HasFault (K : ℕ) (bytes : List ℕ) : Type 0 where
   pub line : ℕ
   pub fault : IsFault K bytes line
+
+-- the most that is read of the input: one byte more than a script may have
+abbrev pub most_read : ℕ
+most_read = longest + 1
 
 -- a source has lost at most n bytes, from the front
 pub record LostAtMost (n : ℕ) (old new : List ℕ) : Type 0 where

@@ -21,6 +21,10 @@ worn_at = 2 ^ 62
 unfoldable pub undivided : ℕ → ℕ → Shape
 undivided K capacity = record { k = K; capacity = capacity; pages = 64; slots = worn_at; boundaries = 0; cells = 10 ^ 6 }
 
+-- the bucket of the file of today has two records at most
+abbrev pub bucket_capacity : ℕ
+bucket_capacity = 2
+
 -- no owners
 abbrev pub nobody : Owners
 nobody = record { buckets = []; parts = [] }

@@ -7,7 +7,7 @@ ghost use Rattle.grid_types.specs.declared.request.Request.TheVariants as ask;
 ghost use Rattle.grid_types.specs.declared.request.Reply.TheVariants as reply;
 ghost use Rattle.grid_script.specs.Taken.{is_taken, AreTaken};
 ghost use Rattle.grid_shell.specs.Standing.{undivided, worn_at, StandsAt, IsDiskFault};
-ghost use Rattle.grid_shell.specs.Runs.{IsReplyTo, AreRepliesTo};
+ghost use Rattle.grid_shell.specs.Runs.{IsReplyTo, Judges, AreRepliesTo};
 
 use crate::lone::Lone;
 use disk_trait::{Disk, Steps};
@@ -37,6 +37,7 @@ fn reply_to_get<const K: usize, D: Disk, L: Ledger>(
     ensures told { IsTrue (D.honest lone.old.disk) → (s : State K) → StandsAt K lone.old.capacity (D.seen lone.old.disk) lone.old.front s → lone.old.front < worn_at → IfOk result (λ r. r ≡ (answer (undivided K lone.old.capacity) s (ask.Get key.now)).reply) }
     ensures stands { IsTrue (D.honest lone.old.disk) → (s : State K) → StandsAt K lone.old.capacity (D.seen lone.old.disk) lone.old.front s → lone.old.front < worn_at → OnOk result (StandsAt K lone.old.capacity (D.seen lone.new.disk) lone.new.front (answer (undivided K lone.old.capacity) s (ask.Get key.now)).state) }
     ensures kind { IfOk result (IsReplyTo (ask.Get key.now)) }
+    ensures judged { IfOk result (Judges lone.old.capacity lone.new.page (ask.Get key.now)) }
     ensures front { lone.new.front ≤ lone.old.front + 1 }
     ensures fault { IfErr result (λ e. IsDiskFault e (D.read_count lone.old.disk) (D.read_count lone.new.disk) (D.write_count lone.old.disk) (D.write_count lone.new.disk)) }
     ensures reads { D.read_count lone.old.disk ≤ D.read_count lone.new.disk }
@@ -60,6 +61,7 @@ fn reply_to_put<const K: usize, D: Disk, L: Ledger>(
     ensures told { IsTrue (D.honest lone.old.disk) → (s : State K) → StandsAt K lone.old.capacity (D.seen lone.old.disk) lone.old.front s → lone.old.front < worn_at → IfOk result (λ r. r ≡ (answer (undivided K lone.old.capacity) s (ask.Put row.now)).reply) }
     ensures stands { IsTrue (D.honest lone.old.disk) → (s : State K) → StandsAt K lone.old.capacity (D.seen lone.old.disk) lone.old.front s → lone.old.front < worn_at → OnOk result (StandsAt K lone.old.capacity (D.seen lone.new.disk) lone.new.front (answer (undivided K lone.old.capacity) s (ask.Put row.now)).state) }
     ensures kind { IfOk result (IsReplyTo (ask.Put row.now)) }
+    ensures judged { IfOk result (Judges lone.old.capacity lone.new.page (ask.Put row.now)) }
     ensures front { lone.new.front ≤ lone.old.front + 1 }
     ensures fault { IfErr result (λ e. IsDiskFault e (D.read_count lone.old.disk) (D.read_count lone.new.disk) (D.write_count lone.old.disk) (D.write_count lone.new.disk)) }
     ensures reads { D.read_count lone.old.disk ≤ D.read_count lone.new.disk }
@@ -84,6 +86,7 @@ fn reply_to<const K: usize, D: Disk, L: Ledger>(
     ensures told { IsTrue (D.honest lone.old.disk) → (s : State K) → StandsAt K lone.old.capacity (D.seen lone.old.disk) lone.old.front s → lone.old.front < worn_at → IfOk result (λ r. r ≡ (answer (undivided K lone.old.capacity) s line.now.request).reply) }
     ensures stands { IsTrue (D.honest lone.old.disk) → (s : State K) → StandsAt K lone.old.capacity (D.seen lone.old.disk) lone.old.front s → lone.old.front < worn_at → OnOk result (StandsAt K lone.old.capacity (D.seen lone.new.disk) lone.new.front (answer (undivided K lone.old.capacity) s line.now.request).state) }
     ensures kind { IfOk result (IsReplyTo line.now.request) }
+    ensures judged { IfOk result (Judges lone.old.capacity lone.new.page line.now.request) }
     ensures front { lone.new.front ≤ lone.old.front + 1 }
     ensures fault { IfErr result (λ e. IsDiskFault e (D.read_count lone.old.disk) (D.read_count lone.new.disk) (D.write_count lone.old.disk) (D.write_count lone.new.disk)) }
     ensures reads { D.read_count lone.old.disk ≤ D.read_count lone.new.disk }

@@ -5,8 +5,8 @@ ghost use Rattle.disk_trait.specs.Causes.{Rose};
 ghost use Rattle.disk_trait.specs.Streams.{Adds};
 ghost use Rattle.grid_script.specs.Taken.{AreTaken, IsScript, IsFault};
 ghost use Rattle.grid_shell.specs.Endings.{status_of, HasBegun, IsSilent, IsUnread};
-ghost use Rattle.grid_shell.specs.Standing.{begun, StandsAt};
-ghost use Rattle.grid_shell.specs.Runs.{printed, IsAnswered, IsPrinted, SomePrinted, HasFailed, OneRose, OneHigher, LostAtMost};
+ghost use Rattle.grid_shell.specs.Standing.{begun, bucket_capacity, StandsAt};
+ghost use Rattle.grid_shell.specs.Runs.{printed, IsAnswered, IsPrinted, SomePrinted, HasFailed, OneRose, OneHigher, most_read, LostAtMost};
 
 use crate::ending::Ending;
 use crate::input::{InputFault, read_all};
@@ -38,7 +38,7 @@ pub struct Worked<D: Disk> {
 
 /// Answers the lines of a script, and prints. Nothing is printed before the last one was answered, nor where a call of
 /// the disk has failed.
-fn answer_lines<D: Disk, O: Sink, L: Ledger>(
+pub fn answer_lines<D: Disk, O: Sink, L: Ledger>(
     alloc: Global,
     lone: &mut Lone<D>,
     asked: &[Line<ATTRIBUTES>],
@@ -61,6 +61,7 @@ fn answer_lines<D: Disk, O: Sink, L: Ledger>(
         ⊎ IsPrinted (Rose (O.fault_count out.old) (O.fault_count out.new)) (Rose (O.fault_count out.old) (O.fault_count out.new)) asked.now (O.received out.old) (O.received out.new) (status_of result) }
     ensures device { result ≡ Ending.Device → HasFailed (D.read_count lone.new.disk) (D.write_count lone.new.disk) ⊎ Rose (O.fault_count out.old) (O.fault_count out.new) }
     ensures counted { HasFailed (D.read_count lone.new.disk) (D.write_count lone.new.disk) ⊎ (O.fault_count out.old < O.fault_count out.new) → (result ≢ Ending.Done) × (result ≢ Ending.Damaged) }
+    ensures failed { HasFailed (D.read_count lone.new.disk) (D.write_count lone.new.disk) → IsSilent result × (out.new ≡ out.old) }
     ensures begun { HasBegun result }
     ensures later { O.fault_count out.old ≤ O.fault_count out.new }
 {
@@ -95,13 +96,14 @@ fn open_and_answer<D: Disk, O: Sink>(
     requires short { length script.now ≤ MOST }
     requires taken { AreTaken script.now }
     ensures answered { IsTrue (D.honest disk) → IsTrue (O.tells out.old) → (result.ending ≡ Ending.Memory) ⊎ HasFailed (D.read_count result.disk) (D.write_count result.disk) ⊎ Rose (O.fault_count out.old) (O.fault_count out.new)
-        ⊎ IsAnswered CAPACITY script.now (O.received out.old) (O.received out.new) (D.seen result.disk) (status_of result.ending) }
-    ensures done { result.ending ≡ Ending.Done → IsTrue (D.honest disk) → IsTrue (O.tells out.old) → IsAnswered CAPACITY script.now (O.received out.old) (O.received out.new) (D.seen result.disk) (status_of result.ending) }
-    ensures front { IsTrue (D.honest disk) → IsTrue (O.tells out.old) → Adds (O.received out.old) (O.received out.new) (printed CAPACITY script.now) }
+        ⊎ IsAnswered bucket_capacity script.now (O.received out.old) (O.received out.new) (D.seen result.disk) (status_of result.ending) }
+    ensures done { result.ending ≡ Ending.Done → IsTrue (D.honest disk) → IsTrue (O.tells out.old) → IsAnswered bucket_capacity script.now (O.received out.old) (O.received out.new) (D.seen result.disk) (status_of result.ending) }
+    ensures front { IsTrue (D.honest disk) → IsTrue (O.tells out.old) → Adds (O.received out.old) (O.received out.new) (printed bucket_capacity script.now) }
     ensures shown { IsTrue (O.tells out.old) → (IsSilent result.ending × (O.received out.new ≡ O.received out.old))
         ⊎ IsPrinted (Rose (O.fault_count out.old) (O.fault_count out.new)) (Rose (O.fault_count out.old) (O.fault_count out.new)) script.now (O.received out.old) (O.received out.new) (status_of result.ending) }
     ensures device { result.ending ≡ Ending.Device → HasFailed (D.read_count result.disk) (D.write_count result.disk) ⊎ Rose (O.fault_count out.old) (O.fault_count out.new) }
     ensures counted { HasFailed (D.read_count result.disk) (D.write_count result.disk) ⊎ (O.fault_count out.old < O.fault_count out.new) → (result.ending ≢ Ending.Done) × (result.ending ≢ Ending.Damaged) }
+    ensures failed { HasFailed (D.read_count result.disk) (D.write_count result.disk) → IsSilent result.ending × (out.new ≡ out.old) }
     ensures begun { HasBegun result.ending }
     ensures later { O.fault_count out.old ≤ O.fault_count out.new }
 {
@@ -128,6 +130,7 @@ fn open_and_answer<D: Disk, O: Sink>(
 }
 
 /// Reads the script to its end and judges it. An input that counts a failure is a failed device, whatever it gave.
+#[tactic(auto, unfolding(grid_model::specs::Script::longest))]
 fn read_lines<S: Source>(alloc: Global, input: &mut S) -> Result<Script<ATTRIBUTES>, Ending>
     ensures read { IsTrue (S.tells input.old) → IfOk result (λ s. IsScript (S.left input.old) s) }
     ensures short { IfOk result (λ s. length s ≤ MOST) }
@@ -137,7 +140,7 @@ fn read_lines<S: Source>(alloc: Global, input: &mut S) -> Result<Script<ATTRIBUT
     ensures device { IsErrOf result Ending.Device → Rose (S.fault_count input.old) (S.fault_count input.new) }
     ensures counted { IfOk result (λ s. S.fault_count input.new ≡ S.fault_count input.old) }
     ensures quiet { (n : ℕ) → IsErrOf result (Ending.BadScript n) → S.fault_count input.new ≡ S.fault_count input.old }
-    ensures lost { IsTrue (S.tells input.old) → LostAtMost MOST (S.left input.old) (S.left input.new) }
+    ensures lost { IsTrue (S.tells input.old) → LostAtMost most_read (S.left input.old) (S.left input.new) }
     ensures later { S.fault_count input.old ≤ S.fault_count input.new }
 {
     let before = input.faults();
@@ -167,10 +170,10 @@ pub fn run_disk<D: Disk, S: Source, O: Sink>(
     requires unwritten { D.write_count disk ≡ 0 }
     ensures answered { IsTrue (D.honest disk) → IsTrue (S.tells input.old) → IsTrue (O.tells out.old) → (asked : List (Line ATTRIBUTES)) → IsScript (S.left input.old) asked
         → (result.ending ≡ Ending.Memory) ⊎ HasFailed (D.read_count result.disk) (D.write_count result.disk) ⊎ OneRose ((S.fault_count input.old, S.fault_count input.new) ∷ (O.fault_count out.old, O.fault_count out.new) ∷ [])
-        ⊎ IsAnswered CAPACITY asked (O.received out.old) (O.received out.new) (D.seen result.disk) (status_of result.ending) }
+        ⊎ IsAnswered bucket_capacity asked (O.received out.old) (O.received out.new) (D.seen result.disk) (status_of result.ending) }
     ensures done { result.ending ≡ Ending.Done → IsTrue (D.honest disk) → IsTrue (S.tells input.old) → IsTrue (O.tells out.old) → (asked : List (Line ATTRIBUTES)) → IsScript (S.left input.old) asked
-        → IsAnswered CAPACITY asked (O.received out.old) (O.received out.new) (D.seen result.disk) (status_of result.ending) }
-    ensures front { IsTrue (D.honest disk) → IsTrue (S.tells input.old) → IsTrue (O.tells out.old) → (asked : List (Line ATTRIBUTES)) → IsScript (S.left input.old) asked → Adds (O.received out.old) (O.received out.new) (printed CAPACITY asked) }
+        → IsAnswered bucket_capacity asked (O.received out.old) (O.received out.new) (D.seen result.disk) (status_of result.ending) }
+    ensures front { IsTrue (D.honest disk) → IsTrue (S.tells input.old) → IsTrue (O.tells out.old) → (asked : List (Line ATTRIBUTES)) → IsScript (S.left input.old) asked → Adds (O.received out.old) (O.received out.new) (printed bucket_capacity asked) }
     ensures shown { IsTrue (O.tells out.old) → (IsSilent result.ending × (O.received out.new ≡ O.received out.old))
         ⊎ SomePrinted ATTRIBUTES (λ asked. IsTrue (S.tells input.old) → IsScript (S.left input.old) asked) (Rose (O.fault_count out.old) (O.fault_count out.new)) (Rose (O.fault_count out.old) (O.fault_count out.new)) (O.received out.old) (O.received out.new) (status_of result.ending) }
     ensures script { IsTrue (S.tells input.old) → (n : ℕ) → result.ending ≡ Ending.BadScript n → IsFault ATTRIBUTES (S.left input.old) n }
@@ -178,8 +181,9 @@ pub fn run_disk<D: Disk, S: Source, O: Sink>(
     ensures quiet { (n : ℕ) → result.ending ≡ Ending.BadScript n → (out.new ≡ out.old) × (S.fault_count input.new ≡ S.fault_count input.old) }
     ensures device { result.ending ≡ Ending.Device → HasFailed (D.read_count result.disk) (D.write_count result.disk) ⊎ OneRose ((S.fault_count input.old, S.fault_count input.new) ∷ (O.fault_count out.old, O.fault_count out.new) ∷ []) }
     ensures counted { HasFailed (D.read_count result.disk) (D.write_count result.disk) ⊎ OneHigher ((S.fault_count input.old, S.fault_count input.new) ∷ (O.fault_count out.old, O.fault_count out.new) ∷ []) → (result.ending ≢ Ending.Done) × (result.ending ≢ Ending.Damaged) }
+    ensures failed { HasFailed (D.read_count result.disk) (D.write_count result.disk) → IsSilent result.ending × (out.new ≡ out.old) }
     ensures words { result.ending ≢ Ending.BadWords }
-    ensures lost { IsTrue (S.tells input.old) → LostAtMost MOST (S.left input.old) (S.left input.new) }
+    ensures lost { IsTrue (S.tells input.old) → LostAtMost most_read (S.left input.old) (S.left input.new) }
 {
     match read_lines(alloc, input) {
         Ok(script) => open_and_answer(alloc, disk, &script, out),

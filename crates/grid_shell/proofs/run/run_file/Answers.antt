@@ -5,6 +5,7 @@ use Rattle.grid_script.specs.Taken.{IsScript}
 use Rattle.grid_shell.specs.declared.ending.Ending.TheVariants.{BadScript, Memory, Device}
 use Rattle.grid_shell.specs.Runs.{OneRose}
 use Rattle.grid_shell.proofs.Closing.{shown_same, shown_failed, kept_end}
+use Rattle.grid_shell.proofs.Outcomes.{script_before}
 use Rattle.grid_shell.proofs.Sequences.{wider}
 use Rattle.grid_shell.proofs.run.run_file.Goals as goal
 
@@ -30,3 +31,6 @@ returns-clause-faulty g c = λ ts n fault. elim (c.run_disk-worked.ensures.fault
   | inr (inl memory) ↦ inr (inl (kept_end c.run_disk-worked.result.ending c.put_back-2.result Memory c.put_back-2.ensures.fault refl memory))
   | inr (inr device) ↦ inr (inr (kept_end c.run_disk-worked.result.ending c.put_back-2.result Device c.put_back-2.ensures.fault refl device.0, inr (inr (inl device.1))))
 ]
+
+pub returns-clause-script : goal.returns-clause-script
+returns-clause-script g c = λ ts n e. c.run_disk-worked.ensures.script ts n (script_before c.run_disk-worked.result.ending c.put_back-2.result n c.put_back-2.ensures.fault e)

@@ -1,9 +1,9 @@
 use Rattle.std.proofs.Common.{◌≡◌, ◌≢◌, ◌⊎◌, ◌∙◌, ◌∷◌, [], inl, inr, ℕ, List, IsTrue, sym, ap, subst}
-use Rattle.disk_trait.specs.Bay.{Absent}
-use Rattle.grid_shell.specs.Commands.{IsRun}
+use Rattle.disk_trait.specs.Bay.{Absent, Tells}
 use Rattle.grid_shell.specs.Endings.{status_of}
-use Rattle.grid_shell.specs.Runs.{OneRose}
-use Rattle.grid_shell.proofs.Outcomes.{status_three, words_are_no_script}
+use Rattle.grid_shell.specs.Runs.{OneRose, IsAnswered}
+use Rattle.grid_shell.proofs.Outcomes.{status_three, words_are_no_script, roses_of}
+use Rattle.grid_shell.proofs.Sessions.{carried}
 use Rattle.grid_shell.proofs.run.run_grid.Goals as goal
 use Rattle.grid_shell.proofs.run.run_grid.Goals.{in-Some, in-None}
 
@@ -24,8 +24,7 @@ pub returns-clause-faulty : goal.returns-clause-faulty
 returns-clause-faulty g c = λ name run told fault.
     elim c.match-file_to_run.branch [
       | in-Some w ↦
-          let found : IsRun c.args.words.now w.in-Some.name.now = w.in-Some.ensures.found in
-          let named : w.in-Some.name.now ≡ name = ap second (sym found ∙ run) in
+          let named : w.in-Some.name.now ≡ name = ap second (sym w.in-Some.ensures.found.words_are ∙ run.words_are) in
           let status : c.status.result ≡ status_of w.run_file-ending.result = c.status.ensures ∙ ap status_of w.ending-is in
           elim (w.run_file-ending.ensures.faulty told fault.line fault.fault) [
             | inl bad ↦ inl (status ∙ ap status_of bad)
@@ -37,6 +36,21 @@ returns-clause-faulty g c = λ name run told fault.
                   (subst (λ s. (IsTrue (g.B.Bay.tells c.args.bay.now) × (g.B.Bay.place c.args.bay.now w.in-Some.name.now ≢ Absent)) ⊎ OneRose ((g.B.Bay.fault_count c.args.bay.now, g.B.Bay.fault_count w.run_file-ending.new.bay) ∷ (g.S.Source.fault_count c.args.input.now, g.S.Source.fault_count s) ∷ [])) (sym w.input-is)
                   device.1)),
             ))
+          ]
+      | in-None w ↦ absurd (w.in-None.ensures.none name run)
+    ]
+
+pub returns-clause-answered : goal.returns-clause-answered
+returns-clause-answered g c = λ name run bay_tells source_tells sink_tells absent asked script.
+    elim c.match-file_to_run.branch [
+      | in-Some w ↦
+          let named : w.in-Some.name.now ≡ name = ap second (sym w.in-Some.ensures.found.words_are ∙ run.words_are) in
+          let status : c.status.result ≡ status_of w.run_file-ending.result = c.status.ensures ∙ ap status_of w.ending-is in
+          elim (w.run_file-ending.ensures.answered bay_tells source_tells sink_tells (ap (g.B.Bay.place c.args.bay.now) named ∙ absent) asked script) [
+            | inl memory ↦ inl (status ∙ ap status_of memory)
+            | inr (inl rose) ↦ inr (inl (roses_of _ _ _ (ap g.B.Bay.fault_count (sym w.bay-is)) (ap g.S.Source.fault_count (sym w.input-is)) (ap g.O.Sink.fault_count (sym w.out-is)) rose))
+            | inr (inr told) ↦ inr (inr (carried (λ has s at. Tells (λ d. IsAnswered {K = 2} 2 asked (g.O.Sink.received c.args.out.now) has (g.B.Disk.Disk.seen d) s) at)
+                (ap g.O.Sink.received (sym w.out-is)) (sym status) (λ i. g.B.Bay.place (w.bay-is i) (sym named i)) told))
           ]
       | in-None w ↦ absurd (w.in-None.ensures.none name run)
     ]
