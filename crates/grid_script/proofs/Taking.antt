@@ -2,7 +2,7 @@
 use Rattle.std.proofs.lemmas.List.{length-map}
 use Rattle.std.proofs.lemmas.Bool.Decides.{nat_tests}
 use Rattle.std.proofs.lemmas.List.FromFn.{length-range_with_len}
-use Rattle.std.proofs.Common.{◌==◌, cond, nat_le, leb-true, leb-false, eqb-true, Result, ◌≡◌, ◌<◌, ◌≤◌, ◌+◌, ◌-◌, ◌⊎◌, ⊎_elim, inl, inr, ℕ, zero, suc, Bool, true, false, List, [], ◌∷◌, fold, take, length, Option, Some, None, IsTrue, IsFalse, Ok, Err, refl, sym, ap, subst, ◌∙◌, arith, true≢false, slice_get}
+use Rattle.std.proofs.Common.{◌==◌, cond, nat_le, leb-true, leb-false, eqb-true, ◌≡◌, ◌<◌, ◌≤◌, ◌+◌, ◌-◌, ◌⊎◌, ⊎_elim, ℕ, zero, suc, Bool, true, false, List, [], ◌∷◌, fold, take, length, Option, Some, None, IsTrue, IsFalse, Ok, Err, refl, sym, ap, subst, ◌∙◌, arith, true≢false, slice_get}
 use Rattle.std.specs.Prelude.{filter_map}
 use Rattle.std.specs.List.{Contains, range_with_len, cons_option}
 use Rattle.std.specs.Option.{is_some, option_and_then}

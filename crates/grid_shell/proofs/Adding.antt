@@ -4,10 +4,6 @@ use Rattle.std.proofs.Math.Seq.{take-append_seam, take-append-add}
 use Rattle.std.proofs.lemmas.List.{append-nil, append_cancel_left, take-append-drop}
 use Rattle.disk_trait.specs.Streams.{Adds}
 
--- nothing, at first
-pub adds_nothing : (old bytes : List ℕ) → Adds old old bytes
-adds_nothing old bytes = record { count = 0; added = sym (append-nil old) }
-
 -- a front of a text is one of a longer text
 pub adds_longer : (old new t u : List ℕ) → Adds old new t → Adds old new (t ++ u)
 adds_longer old new t u a =

@@ -23,9 +23,6 @@ title (r ∷ rs) = ended (numbered (codes "client ") 1)
 abbrev pub text_to : {K : ℕ} → List (Reply K) → ℕ → List ℕ
 text_to rs i = title rs ++ flat_map reply_text (take i rs)
 
-pub text_none : {K : ℕ} (rs : List (Reply K)) → text_to rs 0 ≡ title rs
-text_none rs = append-nil (title rs)
-
 pub text_more : {K : ℕ} (rs : List (Reply K)) (i : ℕ) (d : Reply K) → i < length rs → text_to rs (i + 1) ≡ text_to rs i ++ reply_text (get_or rs i d)
 text_more rs i d lt = ap (λ qs. title rs ++ flat_map reply_text qs) (take_more rs i d lt) ∙ sym (flat_map_more reply_text (title rs) (take i rs) (get_or rs i d))
 

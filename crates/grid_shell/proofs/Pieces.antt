@@ -30,13 +30,3 @@ module _ (all had out other now left rest : List ℕ) (n : ℕ) (le : n ≤ leng
   -- and the rest is what stands behind it
   pub rest_more : rest ≡ drop (length now) all
   rest_more = t.left ∙ ap (drop n) l ∙ drop-drop n (length had) all ∙ ap (λ (k : ℕ). drop k all) (sym (length-in_hand had out other now n le e))
-
--- the end of the input: nothing is left
-pub all_taken : (all had left : List ℕ) (most : ℕ) → had ≡ take (length had) all → left ≡ drop (length had) all → left ≡ [] → length had ≤ most → had ≡ take most all
-all_taken all had left most h l none le =
-    let short : length all ≤ length had = omega (arith, ap length (sym l ∙ none), length-drop (length had) all) in
-    h ∙ take_all (length had) all short ∙ sym (take_all most all (omega (arith, short, le)))
-
--- or there is as much as was wanted
-pub enough_taken : (all had : List ℕ) (most : ℕ) → had ≡ take (length had) all → length had ≡ most → had ≡ take most all
-enough_taken all had most h e = h ∙ ap (λ (k : ℕ). take k all) e

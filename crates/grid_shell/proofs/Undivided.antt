@@ -94,9 +94,6 @@ module _ (K C : ℕ) where
 
   -- the note of a put: none where the bucket takes the key, and else there is none
   module _ (t : Table) (k : List ℕ) (key : IsKey K k) (all : inside t (whole K) ≡ t) where
-    note_at : Option NoteOf
-    note_at = put_note_at (undivided K C) (new_layout K) t k (first_box K)
-
     by_holder : put_note (undivided K C) (new_layout K) t k ≡ put_note_at (undivided K C) (new_layout K) t k (first_box K)
     unfolding put_note
     by_holder = ap (λ o. option_and_then (λ e. put_note_at (undivided K C) (new_layout K) t k e.1) o) (holds_each K k key)

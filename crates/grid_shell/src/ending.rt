@@ -12,7 +12,7 @@ pub enum Ending {
     Done,
     /// The words are none of the written forms.
     BadWords,
-    /// The first line of the script that asks nothing; 0 where the script is too long.
+    /// The first line of the script that the program refuses; 0 where the script is too long.
     BadScript { line: u64 },
     /// A line met a page whose bytes are not what they have to be.
     Damaged,

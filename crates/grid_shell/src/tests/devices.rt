@@ -1,6 +1,6 @@
 //! Calls that fail, of the bay and the streams, and of the disk.
 
-use super::{Case, NO_TEXT, PRINTED, SCRIPT, WELL, shown};
+use super::{Case, NO_TEXT, PRINTED, SCRIPT, WELL, show};
 use crate::ending::Ending;
 use crate::run::run_grid;
 use crate::work::run_disk;
@@ -15,7 +15,7 @@ const DEVICE: &[u8] = b"grid: device\n";
 #[test]
 fn each_failed_call_of_a_stream_has_its_status(rt: HostRuntime) -> Result<(), Fail> {
     for call in 1..7 {
-        let read = shown(
+        let read = show(
             &rt,
             &Case {
                 piece: 9,
@@ -23,7 +23,7 @@ fn each_failed_call_of_a_stream_has_its_status(rt: HostRuntime) -> Result<(), Fa
                 ..WELL
             },
         )?;
-        let printed = shown(
+        let printed = show(
             &rt,
             &Case {
                 piece: 9,
@@ -48,7 +48,7 @@ fn each_failed_call_of_a_stream_has_its_status(rt: HostRuntime) -> Result<(), Fa
 fn what_is_told_changes_no_status(rt: HostRuntime) -> Result<(), Fail> {
     for call in 1..5 {
         let words = ["run"];
-        let refused = shown(
+        let refused = show(
             &rt,
             &Case {
                 words: &words,
@@ -56,7 +56,7 @@ fn what_is_told_changes_no_status(rt: HostRuntime) -> Result<(), Fail> {
                 ..WELL
             },
         )?;
-        let faulty = shown(
+        let faulty = show(
             &rt,
             &Case {
                 script: b"stat",
@@ -64,7 +64,7 @@ fn what_is_told_changes_no_status(rt: HostRuntime) -> Result<(), Fail> {
                 ..WELL
             },
         )?;
-        let failed = shown(
+        let failed = show(
             &rt,
             &Case {
                 bay_call: 1,
@@ -154,7 +154,7 @@ fn failed_calls_have_their_status(rt: HostRuntime) -> Result<(), Fail> {
             DEVICE,
         ),
     ] {
-        assert!(rt; shown(&rt, &case)?.is(status, printed, told));
+        assert!(rt; show(&rt, &case)?.is(status, printed, told));
     }
     Ok(())
 }

@@ -57,7 +57,7 @@ impl Shown {
     }
 }
 
-fn shown(rt: &HostRuntime, case: &Case<'_>) -> Result<Shown, Fail> {
+fn show(rt: &HostRuntime, case: &Case<'_>) -> Result<Shown, Fail> {
     let alloc = rt.alloc();
     let mut words = Words::new(alloc);
     for word in case.words {

@@ -1,6 +1,6 @@
 //! Scripts and words, and what is shown of them.
 
-use super::{Case, NO_TEXT, PRINTED, SCRIPT, WELL, shown};
+use super::{Case, NO_TEXT, PRINTED, SCRIPT, WELL, show};
 use std::test::Fail;
 
 #[test]
@@ -46,7 +46,7 @@ fn scripts_have_their_text_and_status(rt: HostRuntime) -> Result<(), Fail> {
         ),
     ] {
         for piece in [0, 1] {
-            let shown = shown(
+            let shown = show(
                 &rt,
                 &Case {
                     script,
@@ -65,14 +65,14 @@ fn scripts_have_their_text_and_status(rt: HostRuntime) -> Result<(), Fail> {
 fn a_script_may_be_too_long(rt: HostRuntime) -> Result<(), Fail> {
     let script = vec![in rt.alloc(); b'#'; 16_777_217]?;
     let script = script.as_slice();
-    let shown = shown(&rt, &Case { script, ..WELL })?;
+    let shown = show(&rt, &Case { script, ..WELL })?;
     assert!(rt; shown.is(3, NO_TEXT, b"grid: script line 0\n"));
     Ok(())
 }
 
 /// Whether these words are refused, and nothing else is shown.
 fn refuses(rt: &HostRuntime, words: &[&str]) -> Result<bool, Fail> {
-    let shown = shown(rt, &Case { words, ..WELL })?;
+    let shown = show(rt, &Case { words, ..WELL })?;
     Ok(shown.is(2, NO_TEXT, b"grid: words\n"))
 }
 

@@ -6,7 +6,7 @@ use Rattle.grid_script.proofs.Taking.{untaken-bars, fault-bars, few-asked}
 use Rattle.grid_script.proofs.taken.read_lines.Goals as goal
 
 pub returns-in-Err-Line-clause-refused : goal.returns-in-Err-Line-clause-refused
-returns-in-Err-Line-clause-refused g c = 
+returns-in-Err-Line-clause-refused g c =
     let P : ScriptFault → Result (Script g.row.K) ScriptFault = λ x. Err x in
     fault-bars c.args.bytes.now c.in-Err-Line.field-0-0 c.requires.short (c.in-Err-Line.ensures.fault c.in-Err-Line.field-0-0 (ap P c.in-Err-Line.field-0-is))
 
