@@ -24,7 +24,7 @@ impl<const K: usize> Model for Batches<K> {
 
 impl<const K: usize> Batches<K> {
     /// No batches.
-    pub fn new(alloc: Global) -> Batches<K>
+    pub(crate) fn new(alloc: Global) -> Batches<K>
         ensures { result ≡ [] }
     {
         Batches {
@@ -33,7 +33,7 @@ impl<const K: usize> Batches<K> {
     }
 
     /// Adds a batch at the end. Its only error is want of memory.
-    pub fn push(&mut self, batch: Batch<K>) -> Result<(), AllocError>
+    pub(crate) fn push(&mut self, batch: Batch<K>) -> Result<(), AllocError>
         ensures added { OnOk result (self.new ≡ self.old ++ batch_of batch.entry ∷ []) }
         ensures refused { OnErr result (self.new ≡ self.old) }
     {
@@ -43,6 +43,7 @@ impl<const K: usize> Batches<K> {
         }
     }
 
+    /// The batches, in order.
     pub fn list(&self) -> &[Batch<K>]
         ensures { map batch_of result.now ≡ self.now }
     {

@@ -5,6 +5,13 @@ ghost use Rattle.journal_slots.specs.Gates.{IsGatePage, IsGateHead, gates_in};
 
 use page_fields::{put_bytes, put_zeros, set_u32, zeros};
 
+/// Whether a gate is open. Any value but 1 is closed.
+pub fn is_open(gate: u8) -> bool
+    ensures { IsTrue result ↔ (gate ≡ 1) }
+{
+    gate == 1
+}
+
 /// Makes `page` the gate page of a half with these gates, whatever it was before.
 pub fn encode_gates(half: u8, gates: &[u8], page: &mut [u8; 4096])
     requires few { length gates.now ≤ 4000 }
@@ -25,7 +32,7 @@ fn has_head(page: &[u8; 4096], half: u8) -> bool
 }
 
 /// Whether this is the gate page of that half with so many slots, whatever their gates are.
-pub fn are_gates(page: &[u8; 4096], half: u8, slots: u32) -> bool
+pub fn is_gate_page(page: &[u8; 4096], half: u8, slots: u32) -> bool
     requires two { half < 2 }
     requires few { slots ≤ 4000 }
     ensures judged { IsTrue result ↔ IsGatePage half slots page.now }

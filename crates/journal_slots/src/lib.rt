@@ -16,7 +16,7 @@ mod writing;
 
 pub use batch::Batch;
 pub use batches::Batches;
-pub use gates::{are_gates, encode_gates};
+pub use gates::{encode_gates, is_gate_page};
 pub use laws::spelling_law;
 pub use publishing::publish_batch;
 pub use reading::decode;

@@ -1,5 +1,5 @@
 //! A batch from the bytes of a page.
-ghost use Rattle.std.specs.Prelude.{◌≡◌, ◌≤◌, ◌+◌, ℕ, List, [], length, slice_index, IsTrue, IsFalse, IfSome, IfNone};
+ghost use Rattle.std.specs.Prelude.{◌≡◌, ◌≤◌, ◌+◌, List, [], length, slice_index, IsTrue, IsFalse, IfSome, IfNone};
 ghost use Rattle.grid_types.specs.declared.note.NoteOf.{NoteOf};
 ghost use Rattle.grid_types.specs.declared.note.Noted.{Noted};
 ghost use Rattle.grid_types.specs.declared.update.Update.{Update};

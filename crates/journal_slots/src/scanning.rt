@@ -1,5 +1,5 @@
 //! The batches of a half of the journal.
-ghost use Rattle.std.specs.Prelude.{◌≡◌, ◌<◌, ◌≤◌, ◌+◌, ◌*◌, ◌++◌, ◌∷◌, [], ◌↔◌, List, ℕ, IsTrue, IfOk, IfErr, OnOk, IsErrOf, length};
+ghost use Rattle.std.specs.Prelude.{◌≡◌, ◌<◌, ◌≤◌, ◌+◌, ◌*◌, [], ◌↔◌, List, ℕ, IsTrue, IfOk, IfErr, OnOk, IsErrOf, length};
 ghost use Rattle.grid_types.specs.declared.refusal.Refusal.TheVariants.{ReadFault, Damaged, NoMemory};
 ghost use Rattle.grid_types.specs.Pages.{page_of};
 ghost use Rattle.grid_types.specs.Shapes.{is_shape, file_pages, slot_page};
@@ -8,8 +8,9 @@ ghost use Rattle.disk_trait.specs.Moments.{LeavesOnly};
 ghost use Rattle.grid_model.specs.Spellings as model;
 ghost use Rattle.journal_slots.specs.Scans.{HasGatesOf, AreBatchesOn, IsScan, SpellsSome, IsFirstBadSlot, IsFirstBad, IsRefusalOfScan, open_slots_of, IsMore, SpellsOf, IsToKeep, WantsMemory};
 
+use crate::gates::{is_gate_page, is_open};
 use crate::pages::read_page;
-use crate::{Batches, are_gates, decode};
+use crate::{Batches, decode};
 use disk_trait::{Disk, Steps};
 use grid_types::{Layout, Refusal};
 use std::alloc::{AllocError, Global};
@@ -89,7 +90,7 @@ fn scan_slots<const K: usize, D: Disk, L: Ledger>(
     ensures writes { D.write_count disk.old ≤ D.write_count disk.new }
 {
     for slot in 0..layout.shape.slots {
-        if gates[slot as usize] != 1 {
+        if !is_open(gates[slot as usize]) {
             continue;
         }
         let page = layout.slot_page(half, slot);
@@ -148,7 +149,7 @@ pub fn scan_half<const K: usize, D: Disk, L: Ledger>(
         Err(why) => return Err(why),
     }
     let slots = slots_of(layout);
-    if !are_gates(&bytes, half, slots) {
+    if !is_gate_page(&bytes, half, slots) {
         return Err(Refusal::Damaged { page: gate_page });
     }
     let mut found = Batches::new(alloc);

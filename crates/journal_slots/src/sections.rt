@@ -13,6 +13,9 @@ use crate::{Batch, encode};
 use disk_trait::{Disk, DiskFailed, write_through};
 use grid_types::Layout;
 
+/// Closed gates, for each slot that a half may have.
+const CLOSED: [u8; 4000] = [0; 4000];
+
 /// The byte of a slot's gate, counted from the start of the file.
 fn gate_at(layout: &Layout, half: u8, slot: u32) -> u64
     requires lawful { IsTrue (is_shape layout.now.shape) }
@@ -109,6 +112,5 @@ pub fn clear_half<D: Disk>(
         return Ok(());
     }
     let at = gate_at(layout, half, 0);
-    let closed = [0; 4000];
-    write_through(disk, at, &closed[..used as usize])
+    write_through(disk, at, &CLOSED[..used as usize])
 }

@@ -25,7 +25,7 @@ returns-in-Ok-scan_slots-clause-found g c = λ h.
     let gates = gates_in c.slots_of-slots.result out in
     record {
       gates = gates;
-      spelled = gates_read s image c.args.half c.gate_page-gate_page.result c.slots_of-slots.result out (c.in-Ok.ensures.bytes h) c.gate_page-gate_page.ensures.value c.slots_of-slots.ensures.value c.slots_of-slots.ensures.few c.read_page.array_long (c.are_gates.ensures.gates c.if-not-are_gates.false);
+      spelled = gates_read s image c.args.half c.gate_page-gate_page.result c.slots_of-slots.result out (c.in-Ok.ensures.bytes h) c.gate_page-gate_page.ensures.value c.slots_of-slots.ensures.value c.slots_of-slots.ensures.few c.read_page.array_long (c.is_gate_page.ensures.gates c.if-not-is_gate_page.false);
       found = subst (λ (i : List ℕ). AreBatchesOn s i (open_slots_of gates c.args.half) c.args.session c.scan_slots.new.found) (c.in-Ok.ensures.seen h)
           (subst (λ (gs : List ℕ). AreBatchesOn s (g.D.Disk.seen c.read_page.new.disk) (open_slots_of gs c.args.half) c.args.session c.scan_slots.new.found) (part_is c.slots_of-slots.result out) (c.in-Ok-scan_slots.ensures.found (c.in-Ok.ensures.honest ∙ h)));
     }
@@ -38,7 +38,7 @@ pub returns-in-Ok-scan_slots-clause-ticks : goal.returns-in-Ok-scan_slots-clause
 returns-in-Ok-scan_slots-clause-ticks g c = λ h gates has.
     let out = c.read_page.new.out in
     let s = c.args.layout.now.shape in
-    let read = gates_read s (g.D.Disk.seen c.args.disk.now) c.args.half c.gate_page-gate_page.result c.slots_of-slots.result out (c.in-Ok.ensures.bytes h) c.gate_page-gate_page.ensures.value c.slots_of-slots.ensures.value c.slots_of-slots.ensures.few c.read_page.array_long (c.are_gates.ensures.gates c.if-not-are_gates.false) in
+    let read = gates_read s (g.D.Disk.seen c.args.disk.now) c.args.half c.gate_page-gate_page.result c.slots_of-slots.result out (c.in-Ok.ensures.bytes h) c.gate_page-gate_page.ensures.value c.slots_of-slots.ensures.value c.slots_of-slots.ensures.few c.read_page.array_long (c.is_gate_page.ensures.gates c.if-not-is_gate_page.false) in
     let same : take (96 + c.slots_of-slots.result - 96) (drop 96 out) ≡ gates = part_is c.slots_of-slots.result out ∙ the_gates s (g.D.Disk.seen c.args.disk.now) c.args.half _ read ∙ sym (the_gates s (g.D.Disk.seen c.args.disk.now) c.args.half gates has) in
     let count : length (open_slots_of (take (96 + c.slots_of-slots.result - 96) (drop 96 out)) c.args.half) ≡ length (open_slots_of gates c.args.half) = ap (λ (gs : List ℕ). length (open_slots_of gs c.args.half)) same in
     omega (arith, c.in-Ok-scan_slots.ensures.all, c.in-Ok.ensures.ticks, count)
@@ -51,7 +51,7 @@ returns-in-Err-scan_slots-clause-damaged g c = λ h p is.
     let gates = gates_in c.slots_of-slots.result out in
     inr (record {
       gates = gates;
-      spelled = gates_read s image c.args.half c.gate_page-gate_page.result c.slots_of-slots.result out (c.in-Ok.ensures.bytes h) c.gate_page-gate_page.ensures.value c.slots_of-slots.ensures.value c.slots_of-slots.ensures.few c.read_page.array_long (c.are_gates.ensures.gates c.if-not-are_gates.false);
+      spelled = gates_read s image c.args.half c.gate_page-gate_page.result c.slots_of-slots.result out (c.in-Ok.ensures.bytes h) c.gate_page-gate_page.ensures.value c.slots_of-slots.ensures.value c.slots_of-slots.ensures.few c.read_page.array_long (c.is_gate_page.ensures.gates c.if-not-is_gate_page.false);
       first = subst (λ (i : List ℕ). IsFirstBadSlot g.row.K s i c.args.half gates p) (c.in-Ok.ensures.seen h)
           (subst (λ (gs : List ℕ). IsFirstBadSlot g.row.K s (g.D.Disk.seen c.read_page.new.disk) c.args.half gs p) (part_is c.slots_of-slots.result out) (c.in-Err-scan_slots.ensures.damaged (c.in-Ok.ensures.honest ∙ h) p (same_error c.in-Err-scan_slots.why _ is)));
     })
@@ -63,7 +63,7 @@ returns-in-Err-scan_slots-clause-no_memory g c = λ h is.
     let gates = gates_in c.slots_of-slots.result out in
     record {
       gates = gates;
-      spelled = gates_read s (g.D.Disk.seen c.args.disk.now) c.args.half c.gate_page-gate_page.result c.slots_of-slots.result out (c.in-Ok.ensures.bytes h) c.gate_page-gate_page.ensures.value c.slots_of-slots.ensures.value c.slots_of-slots.ensures.few c.read_page.array_long (c.are_gates.ensures.gates c.if-not-are_gates.false);
+      spelled = gates_read s (g.D.Disk.seen c.args.disk.now) c.args.half c.gate_page-gate_page.result c.slots_of-slots.result out (c.in-Ok.ensures.bytes h) c.gate_page-gate_page.ensures.value c.slots_of-slots.ensures.value c.slots_of-slots.ensures.few c.read_page.array_long (c.is_gate_page.ensures.gates c.if-not-is_gate_page.false);
       kept = subst (λ (i : List ℕ). IsToKeep g.row.K s i c.args.half gates c.args.session) (c.in-Ok.ensures.seen h)
           (subst (λ (gs : List ℕ). IsToKeep g.row.K s (g.D.Disk.seen c.read_page.new.disk) c.args.half gs c.args.session) (part_is c.slots_of-slots.result out) (c.in-Err-scan_slots.ensures.no_memory (c.in-Ok.ensures.honest ∙ h) (same_error c.in-Err-scan_slots.why _ is)));
     }

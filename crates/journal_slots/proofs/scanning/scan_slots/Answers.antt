@@ -1,4 +1,5 @@
-use Rattle.std.proofs.Common.{◌≡◌, ◌+◌, ℕ, List, length, slice_index, sym, ap, subst, ◌∙◌, arith}
+use Rattle.std.proofs.Common.{◌≡◌, ◌≢◌, ◌+◌, ℕ, List, length, slice_index, sym, ap, subst, ◌∙◌, arith}
+use Rattle.std.proofs.lemmas.Bool.{false≢true}
 use Rattle.grid_types.specs.Pages.{page_of}
 use Rattle.grid_types.specs.Shapes.{slot_page}
 use Rattle.disk_trait.proofs.Moments.{joined}
@@ -6,10 +7,10 @@ use Rattle.journal_slots.specs.Scans.{AreBatchesOn, SpellsSome, SpellsOf}
 use Rattle.journal_slots.proofs.OpenSlots.{open_count, open_same, open_few, found_more, before_more, before_same}
 use Rattle.journal_slots.proofs.scanning.scan_slots.Goals as goal
 
-pub loop-slot-preserved-then-gates-slot-ne1 : goal.loop-slot-preserved-then-gates-slot-ne1
-loop-slot-preserved-then-gates-slot-ne1 g c =
+pub loop-slot-preserved-then-not-is_open : goal.loop-slot-preserved-then-not-is_open
+loop-slot-preserved-then-not-is_open g c =
     let was = c.loop-slot.invariant in
-    let closed = c.if-gates-slot-ne1.true in
+    let closed : slice_index c.args.gates.now c.loop-slot.slot ≢ 1 = λ e. false≢true (sym c.if-not-is_open.true ∙ c.is_open.ensures.1 e) in
     let same = open_same c.args.gates.now c.args.half c.loop-slot.slot closed in
     record {
       honest = was.honest;
@@ -30,7 +31,7 @@ loop-slot-preserved g c =
     let now = c.in-Ok.ensures in
     let s = c.args.layout.now.shape in
     let image = g.D.Disk.seen c.args.disk.now in
-    let one : slice_index c.args.gates.now c.loop-slot.slot ≡ 1 = c.if-gates-slot-ne1.false in
+    let one : slice_index c.args.gates.now c.loop-slot.slot ≡ 1 = c.is_open.ensures.0 c.if-not-is_open.false in
     record {
       honest = now.honest ∙ was.honest;
       extent = now.extent ∙ was.extent;
@@ -53,7 +54,7 @@ returns-in-Err-clause-damaged g c = λ h p is.
     record {
       slot = c.loop-slot.slot;
       inside = c.loop-slot-test.true;
-      opened = c.if-gates-slot-ne1.false;
+      opened = c.is_open.ensures.0 c.if-not-is_open.false;
       page_is = bad.0 ∙ c.slot_page-page.ensures.value;
       none = λ some. bad.1 (subst (λ (b : List ℕ). SpellsSome g.row.K b) (λ i. page_of (bad.0 i) (sym (was.seen h) i)) some);
       before = was.before h;
@@ -67,7 +68,7 @@ returns-in-Err-clause-no_memory g c = λ h is.
     record {
       slot = c.loop-slot.slot;
       inside = c.loop-slot-test.true;
-      opened = c.if-gates-slot-ne1.false;
+      opened = c.is_open.ensures.0 c.if-not-is_open.false;
       spelled = subst (λ (b : List ℕ). SpellsOf g.row.K b c.args.session) bytes (c.in-Err.ensures.no_memory (was.honest ∙ h) is);
       before = was.before h;
     }

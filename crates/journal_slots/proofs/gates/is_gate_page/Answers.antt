@@ -4,7 +4,7 @@ use Rattle.std.proofs.lemmas.List.{length-take-le, length-drop}
 use Rattle.page_fields.specs.Fields.{AreZeros}
 use Rattle.journal_slots.specs.Gates.{gates_in}
 use Rattle.journal_slots.proofs.GatePages.{gates_joined, head_there, zeros_there}
-use Rattle.journal_slots.proofs.gates.are_gates.Goals as goal
+use Rattle.journal_slots.proofs.gates.is_gate_page.Goals as goal
 
 pub returns-then-has_head-clause-gates : goal.returns-then-has_head-clause-gates
 returns-then-has_head-clause-gates c = λ yes.

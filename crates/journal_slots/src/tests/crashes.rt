@@ -1,0 +1,103 @@
+//! Runs that are cut off at each call of the disk, and what a scan finds then.
+ghost use Rattle.std.specs.Prelude.{◌≡◌, ◌≤◌, ◌*◌, IsTrue};
+ghost use Rattle.grid_types.specs.Shapes.{is_shape, file_pages};
+ghost use Rattle.disk_memory.specs.Memories.{extent_of};
+
+use super::*;
+use disk_memory::{Fused, Keep};
+use std::test::*;
+
+/// What a run that was cut off answered, and how many batches of session 7 a scan finds then, where each is the one that
+/// was written and no page is damaged.
+#[derive(Clone, Copy)]
+struct Outcome {
+    answered: bool,
+    found: Option<usize>,
+}
+
+/// Whether each batch is the one that was written.
+fn are_whole(batches: &[Batch<2>]) -> bool {
+    for batch in batches {
+        if !is_of_each_kind(batch, 7, 9) {
+            return false;
+        }
+    }
+    true
+}
+
+fn found(alloc: Global, disk: &mut Memory, layout: &Layout) -> Option<usize>
+    requires lawful { IsTrue (is_shape layout.now.shape) }
+    requires size { file_pages layout.now.shape * 4096 ≤ extent_of disk.old }
+{
+    match scan(alloc, disk, layout, 7) {
+        Ok(batches) => {
+            if are_whole(batches.list()) {
+                Some(batches.list().len())
+            } else {
+                None
+            }
+        }
+        Err(_) => None,
+    }
+}
+
+/// A publication that is cut off after so many calls.
+fn published(alloc: Global, layout: &Layout, calls: u64, keep: Keep) -> Result<Outcome, AllocError>
+    requires lawful { IsTrue (is_shape layout.now.shape) }
+    requires slots { layout.now.shape.slots ≡ 3 }
+{
+    let mut disk = Fused::new(closed(alloc, layout)?, calls);
+    let answered = publish(&mut disk, layout, 1, 7, 9);
+    let mut image = disk.image(keep)?;
+    let found = found(alloc, &mut image, layout);
+    Ok(Outcome { answered, found })
+}
+
+/// A clearing of two batches that is cut off after so many calls.
+fn cleared(alloc: Global, layout: &Layout, calls: u64, keep: Keep) -> Result<Outcome, AllocError>
+    requires lawful { IsTrue (is_shape layout.now.shape) }
+    requires slots { layout.now.shape.slots ≡ 3 }
+{
+    let mut disk = closed(alloc, layout)?;
+    let _ = publish(&mut disk, layout, 0, 7, 9);
+    let _ = publish(&mut disk, layout, 1, 7, 9);
+    let mut disk = Fused::new(disk, calls);
+    let answered = clear_half(&mut disk, layout, 1, 2).is_ok();
+    let mut image = disk.image(keep)?;
+    let found = found(alloc, &mut image, layout);
+    Ok(Outcome { answered, found })
+}
+
+/// How many batches a publication leaves: a page and its sync, and a gate that may be kept before its sync.
+fn left_by_publishing(calls: u64, keep: Keep) -> usize {
+    match calls {
+        0..=2 => 0,
+        3 => usize::from(keep == Keep::All),
+        _ => 1,
+    }
+}
+
+/// How many batches a clearing leaves: gates that may be kept before their sync.
+fn left_by_clearing(calls: u64, keep: Keep) -> usize {
+    match calls {
+        0 => 2,
+        1 => if keep == Keep::None { 2 } else { 0 },
+        _ => 0,
+    }
+}
+
+#[test]
+fn a_crash_leaves_whole_batches(rt: HostRuntime) -> Result<(), Fail> {
+    let layout = small().ok_or("the shape is lawful")?;
+    for calls in 0..6 {
+        for keep in [Keep::All, Keep::None, Keep::Changed] {
+            let run = published(rt.alloc(), &layout, calls, keep)?;
+            assert_eq!(rt; run.answered, calls >= 4);
+            assert_eq!(rt; run.found, Some(left_by_publishing(calls, keep)));
+            let run = cleared(rt.alloc(), &layout, calls, keep)?;
+            assert_eq!(rt; run.answered, calls >= 2);
+            assert_eq!(rt; run.found, Some(left_by_clearing(calls, keep)));
+        }
+    }
+    Ok(())
+}

@@ -1,0 +1,164 @@
+//! Worked pages of the journal, scans, and runs that are cut off.
+ghost use Rattle.std.specs.Prelude.{◌≡◌, ◌<◌, ◌≤◌, ◌*◌, IsTrue, IfSome, IfOk};
+ghost use Rattle.grid_types.specs.Shapes.{is_shape, file_pages};
+ghost use Rattle.disk_memory.specs.Memories.{extent_of};
+
+mod crashes;
+mod pages;
+mod scans;
+
+use super::*;
+use arrayvec::ArrayVec;
+use disk_memory::Memory;
+use disk_trait::{Disk, Steps};
+use grid_types::{Cut, Data, Key, Layout, NoteOf, Noted, Record, Refusal, Shape, Update};
+use std::alloc::{AllocError, Global};
+use std::marker::Brand;
+use std::sync::ledger::{Blank, Ledger};
+
+fn put(at: [u64; 2], bytes: &[u8], note: NoteOf) -> Option<Noted<2>> {
+    let value = Data::new(bytes)?;
+    let key = Key { at };
+    Some(Noted {
+        update: Update::Put(Record { key, value }),
+        note,
+    })
+}
+
+fn remove(at: [u64; 2], note: NoteOf) -> Noted<2> {
+    Noted {
+        update: Update::Remove(Key { at }),
+        note,
+    }
+}
+
+fn cut(fresh: bool) -> NoteOf {
+    NoteOf::Cut {
+        cut: Cut {
+            attribute: 1,
+            value: 258,
+            fresh,
+        },
+        right: 772,
+    }
+}
+
+/// A batch with an update of each kind and note, at that place.
+fn of_each_kind(session: u64, first: u64) -> Option<Batch<2>> {
+    let mut updates = ArrayVec::new();
+    updates.push(put([3, 7], b"hi", NoteOf::Plain)?);
+    updates.push(put([1, u64::MAX], b"", cut(false))?);
+    updates.push(put([0, 5], &[255; 40], cut(true))?);
+    updates.push(remove([4, 4], NoteOf::Plain));
+    updates.push(remove([6, 9], NoteOf::Merge { with: 1543 }));
+    Some(Batch {
+        session,
+        first,
+        updates,
+    })
+}
+
+/// Whether this is that batch: it has the same page.
+fn is_of_each_kind(batch: &Batch<2>, session: u64, first: u64) -> bool {
+    let Some(wanted) = of_each_kind(session, first) else {
+        return false;
+    };
+    let mut page = [0; 4096];
+    encode(&wanted, &mut page);
+    let mut again = [9; 4096];
+    encode(batch, &mut again);
+    again == page
+}
+
+/// The layout of a file with 8 data pages and 3 slots.
+fn small() -> Option<Layout>
+    ensures lawful { IfSome result (λ l. IsTrue (is_shape l.shape)) }
+    ensures slots { IfSome result (λ l. l.shape.slots ≡ 3) }
+{
+    let shape = Shape {
+        k: 2,
+        capacity: 2,
+        pages: 8,
+        slots: 3,
+        boundaries: 1000,
+        cells: 1_000_000,
+    };
+    if shape.lawful() {
+        Some(Layout { shape })
+    } else {
+        None
+    }
+}
+
+/// Writes the gate page of half 1 with closed gates.
+fn close_all(disk: &mut Memory, layout: &Layout) -> bool
+    requires lawful { IsTrue (is_shape layout.now.shape) }
+    requires size { file_pages layout.now.shape * 4096 ≤ extent_of disk.old }
+    ensures { extent_of disk.new ≡ extent_of disk.old }
+{
+    let mut page = [9; 4096];
+    encode_gates(1, &[0; 3], &mut page);
+    let at = layout.gate_page(1) as u64 * 4096;
+    disk.write(at, &page).is_ok()
+}
+
+/// A file whose gates are closed.
+fn closed(alloc: Global, layout: &Layout) -> Result<Memory, AllocError>
+    requires lawful { IsTrue (is_shape layout.now.shape) }
+    ensures size { IfOk result (λ m. extent_of m ≡ file_pages layout.now.shape * 4096) }
+{
+    let mut disk = Memory::new(alloc, layout.shape.file_pages())?;
+    let _ = close_all(&mut disk, layout);
+    let _ = disk.sync();
+    Ok(disk)
+}
+
+/// Publishes that batch on a slot of half 1.
+fn publish<D: Disk>(disk: &mut D, layout: &Layout, slot: u32, session: u64, first: u64) -> bool
+    requires lawful { IsTrue (is_shape layout.now.shape) }
+    requires size { file_pages layout.now.shape * 4096 ≤ D.extent disk.old }
+    requires inside { slot < layout.now.shape.slots }
+    ensures { D.extent disk.new ≡ D.extent disk.old }
+{
+    let Some(batch) = of_each_kind(session, first) else {
+        return false;
+    };
+    let mut page = [0; 4096];
+    encode(&batch, &mut page);
+    match decode::<2>(&page) {
+        Some(batch) => publish_batch(disk, layout, 1, slot, &batch).is_ok(),
+        None => false,
+    }
+}
+
+fn scan_with<L: Ledger>(
+    alloc: Global,
+    disk: &mut Memory,
+    layout: &Layout,
+    session: u64,
+    blank: Blank,
+) -> Result<Batches<2>, Refusal>
+    requires lawful { IsTrue (is_shape layout.now.shape) }
+    requires size { file_pages layout.now.shape * 4096 ≤ extent_of disk.old }
+    requires name { blank.name ≡ L.name }
+    requires parts { blank.parts ≡ L.parts }
+    requires some { 0 < L.parts }
+    ensures { extent_of disk.new ≡ extent_of disk.old }
+{
+    let mut steps = Steps::<L>::new(blank);
+    scan_half(alloc, disk, layout, 1, session, &mut steps)
+}
+
+/// A scan of half 1 for a session.
+fn scan(
+    alloc: Global,
+    disk: &mut Memory,
+    layout: &Layout,
+    session: u64,
+) -> Result<Batches<2>, Refusal>
+    requires lawful { IsTrue (is_shape layout.now.shape) }
+    requires size { file_pages layout.now.shape * 4096 ≤ extent_of disk.old }
+    ensures { extent_of disk.new ≡ extent_of disk.old }
+{
+    scan_with::<Brand>(alloc, disk, layout, session, Blank::new(1))
+}
