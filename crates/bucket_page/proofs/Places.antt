@@ -12,7 +12,8 @@ use Rattle.grid_types.specs.Keys.{key_cmp}
 use Rattle.grid_model.specs.Tables.{entry, entries_of}
 use Rattle.bucket_page.specs.Spelling.{Ascends}
 use Rattle.bucket_page.specs.Place.{StandsAt, Below}
-use Rattle.bucket_page.proofs.Tables.{one_key, equal_order, put_past, find_past, find_before, ascends_from}
+use Rattle.grid_model.proofs.TableLaws.{one_key, equal_order}
+use Rattle.bucket_page.proofs.Tables.{put_past, find_past, find_before, ascends_from}
 
 some : {K : ℕ} → List ℕ × List ℕ → Record K
 some d = record { key = record { at = d.0 }; value = d.1 }

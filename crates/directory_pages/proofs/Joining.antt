@@ -1,13 +1,14 @@
 -- A page whose fields are those of a directory page is the spelling of the cells that it has.
-use Rattle.std.proofs.Common.{◌≡◌, ◌≤◌, ◌+◌, ◌-◌, ◌*◌, ◌^◌, ◌<◌, ℕ, List, ◌++◌, length, drop, replicate, sym, ap, subst, ◌∙◌, append_assoc, arith, codes, refl}
-use Rattle.std.proofs.lemmas.List.{take-append-drop, drop_all, append-nil}
+use Rattle.std.proofs.Common.{◌≡◌, ◌≤◌, ◌+◌, ◌*◌, ◌^◌, ◌<◌, ℕ, List, ◌++◌, length, drop, replicate, sym, ap, subst, ◌∙◌, append_assoc, arith, codes, refl}
+use Rattle.std.proofs.lemmas.List.{take-append-drop}
 use Rattle.page_fields.specs.Fields.{bytes_of, AreZeros}
 use Rattle.page_fields.specs.Padded.{words_of}
-use Rattle.page_fields.proofs.Entries.{AreBytes, number_is, entries_in, length-entries_in, entries_fit, entries_are}
+use Rattle.page_fields.proofs.Bodies.{zeros_left, body_read}
+use Rattle.page_fields.proofs.Entries.{AreBytes, number_is, entries_in, length-entries_in, entries_fit}
 use Rattle.page_fields.proofs.ZeroParts.{zeros_are}
 use Rattle.directory_pages.specs.Spelling.{head, IsPart}
 use Rattle.directory_pages.specs.Reading.{IsHead}
-use Rattle.directory_pages.proofs.Standing.{head_is, page_is, rest_of, part_there}
+use Rattle.directory_pages.proofs.Standing.{head_is, page_is, part_there}
 
 head_joined : (part count : ℕ) (page : List ℕ) → IsHead part count page → 96 ≤ length page → AreBytes page → page ≡ head part count ++ drop 96 page
 head_joined part count page h low fits =
@@ -19,26 +20,16 @@ head_joined part count page h low fits =
     let joined : (codes "GFD1" ++ (bytes_of 4 part ++ (bytes_of 4 count ++ replicate 84 0))) ++ body ≡ codes "GFD1" ++ (bytes_of 4 part ++ (bytes_of 4 count ++ (replicate 84 0 ++ body))) = simp append_assoc in
     fields ∙ sym joined ∙ ap (λ (k : List ℕ). k ++ body) (sym (head_is part count))
 
-cells_are : (at n : ℕ) (page : List ℕ) → at + 4 * n ≤ length page → AreBytes page → drop at page ≡ words_of (entries_in 4 at n page) ++ drop (at + 4 * n) page
+body_joined : (count : ℕ) (page : List ℕ) → count ≤ 1000 → AreZeros (96 + 4 * count) 4096 page → length page ≡ 4096 → AreBytes page → drop 96 page ≡ words_of (entries_in 4 96 count page) ++ zeros_left 4 count
 unfolding words_of
-cells_are at n page le fits = entries_are 4 at n page le fits
-
-body_joined : (count : ℕ) (page : List ℕ) → count ≤ 1000 → AreZeros (96 + 4 * count) 4096 page → length page ≡ 4096 → AreBytes page → drop 96 page ≡ words_of (entries_in 4 96 count page) ++ rest_of count
-body_joined count page few zeros long fits =
-    let left : 4096 - (96 + 4 * count) ≡ 4000 - 4 * count = omega arith in
-    let tail : drop (96 + 4 * count) page ≡ rest_of count =
-    zeros_are (96 + 4 * count) 4096 page (omega arith) (omega arith) zeros
-    ∙ ap (λ (r : List ℕ). replicate (4096 - (96 + 4 * count)) 0 ++ r) (drop_all 4096 page (omega arith))
-    ∙ append-nil (replicate (4096 - (96 + 4 * count)) 0)
-    ∙ ap (λ (n : ℕ). replicate n 0) left in
-    cells_are 96 count page (omega arith) fits ∙ ap (λ (r : List ℕ). words_of (entries_in 4 96 count page) ++ r) tail
+body_joined count page few zeros long fits = body_read 4 count page (omega (arith, few)) zeros long fits
 
 -- a page with that head, and zeros behind so many cells, is that part
 pub joined : (part count : ℕ) (page : List ℕ) → part < 2 ^ 32 → count ≤ 1000 → length page ≡ 4096 → AreBytes page → IsHead part count page → AreZeros (96 + 4 * count) 4096 page → IsPart part count page
 joined part count page fit few long fits h zeros =
     let cells = entries_in 4 96 count page in
     let size : length cells ≡ count = length-entries_in 4 96 count page in
-    let spelled : page ≡ head part count ++ (words_of cells ++ rest_of count) = head_joined part count page h (omega arith) fits ∙ ap (λ (r : List ℕ). head part count ++ r) (body_joined count page few zeros long fits) in
+    let spelled : page ≡ head part count ++ (words_of cells ++ zeros_left 4 count) = head_joined part count page h (omega arith) fits ∙ ap (λ (r : List ℕ). head part count ++ r) (body_joined count page few zeros long fits) in
     record {
       cells = cells;
       count_is = size;
@@ -46,7 +37,7 @@ joined part count page fit few long fits h zeros =
         part_in_range = fit;
         in_range = entries_fit 4 96 count page fits;
         few = omega (arith, size);
-        bytes = spelled ∙ ap (λ (n : ℕ). head part n ++ (words_of cells ++ rest_of n)) (sym size) ∙ sym (page_is part cells);
+        bytes = spelled ∙ ap (λ (n : ℕ). head part n ++ (words_of cells ++ zeros_left 4 n)) (sym size) ∙ sym (page_is part cells);
       };
     }
 

@@ -3,12 +3,13 @@ use Rattle.std.proofs.Common.{◌≡◌, ◌<◌, ◌+◌, ◌*◌, ◌^◌, ℕ
 use Rattle.std.proofs.lemmas.List.{take_at, drop_at, set_split, length-set, length-take-le, take-append-drop, drop_more}
 use Rattle.page_fields.specs.Fields.{bytes_of, replaced}
 use Rattle.page_fields.specs.Padded.{words_of}
+use Rattle.page_fields.proofs.Bodies.{zeros_left}
 use Rattle.page_fields.proofs.BytesOf.{length-bytes_of, length-words}
 use Rattle.page_fields.proofs.Steps.{set_below}
 use Rattle.grid_model.specs.Spellings.{directory_page}
 use Rattle.directory_pages.specs.Spelling.{head, Spells}
 use Rattle.directory_pages.proofs.Words.{words-append, words-cons}
-use Rattle.directory_pages.proofs.Standing.{page_is, length-head, rest_of}
+use Rattle.directory_pages.proofs.Standing.{page_is, length-head}
 
 -- the middle of three parts gets other bytes, as many
 replaced_mid : (at : ℕ) (a b c new : List ℕ) → length a ≡ at → length new ≡ length b → replaced at new (a ++ (b ++ c)) ≡ a ++ (new ++ c)
@@ -18,12 +19,12 @@ replaced_mid at a b c new la ln =
     ap (λ (f : List ℕ). f ++ (new ++ drop (at + length new) (a ++ (b ++ c)))) front ∙ ap (λ (r : List ℕ). a ++ (new ++ r)) whole
 
 -- the page of cells with one among them: what stands in front of it, its bytes, and what stands behind it
-split_page : (part n : ℕ) (f : List ℕ) (x : ℕ) (r : List ℕ) → length (f ++ x ∷ r) ≡ n → directory_page part (f ++ x ∷ r) ≡ (head part n ++ words_of f) ++ (bytes_of 4 x ++ (words_of r ++ rest_of n))
+split_page : (part n : ℕ) (f : List ℕ) (x : ℕ) (r : List ℕ) → length (f ++ x ∷ r) ≡ n → directory_page part (f ++ x ∷ r) ≡ (head part n ++ words_of f) ++ (bytes_of 4 x ++ (words_of r ++ zeros_left 4 n))
 split_page part n f x r long =
     let cells : words_of (f ++ x ∷ r) ≡ words_of f ++ (bytes_of 4 x ++ words_of r) = words-append f (x ∷ r) ∙ ap (λ (w : List ℕ). words_of f ++ w) (words-cons x r) in
     page_is part (f ++ x ∷ r)
-    ∙ ap (λ (m : ℕ). head part m ++ (words_of (f ++ x ∷ r) ++ rest_of m)) long
-    ∙ ap (λ (w : List ℕ). head part n ++ (w ++ rest_of n)) cells
+    ∙ ap (λ (m : ℕ). head part m ++ (words_of (f ++ x ∷ r) ++ zeros_left 4 m)) long
+    ∙ ap (λ (w : List ℕ). head part n ++ (w ++ zeros_left 4 n)) cells
     ∙ simp append_assoc
 
 -- a page whose cell i gets a bucket is the page of the cells with that bucket at i
@@ -37,7 +38,7 @@ set_page part i x cells lt =
     let was : cells ≡ f ++ old ∷ r = sym (take-append-drop i cells) ∙ ap (λ (t : List ℕ). f ++ t) (drop_more cells i 0 lt ∙ ap (λ (k : ℕ). old ∷ drop k cells) next) in
     let is : set cells i x ≡ f ++ x ∷ r = set_split cells i x lt in
     let front : length (head part n ++ words_of f) ≡ 96 + 4 * i = length-append (head part n) (words_of f) ∙ omega (arith, length-head part n, length-words f, length-take-le i cells (omega arith)) in
-    let tail = words_of r ++ rest_of n in
+    let tail = words_of r ++ zeros_left 4 n in
     ap (λ (cs : List ℕ). replaced (96 + 4 * i) (bytes_of 4 x) (directory_page part cs)) was
     ∙ ap (replaced (96 + 4 * i) (bytes_of 4 x)) (split_page part n f old r (sym (ap length was)))
     ∙ replaced_mid (96 + 4 * i) (head part n ++ words_of f) (bytes_of 4 old) tail (bytes_of 4 x) front (length-bytes_of 4 x ∙ sym (length-bytes_of 4 old))

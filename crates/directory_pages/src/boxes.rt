@@ -1,5 +1,5 @@
 //! The cells of a box that lie on a part, and the parts that hold a cell of it.
-ghost use Rattle.std.specs.Prelude.{◌≡◌, ◌<◌, ◌≤◌, ◌*◌, ◌/◌, ◌%◌, ◌↔◌, ℕ, List, length, slice_index, IsTrue, IfSome, MatchOption};
+ghost use Rattle.std.specs.Prelude.{◌≡◌, ◌<◌, ◌*◌, ◌/◌, ◌%◌, ◌↔◌, ℕ, List, length, slice_index, IsTrue, IfSome, MatchOption};
 ghost use Rattle.grid_model.specs.Lists.{product};
 ghost use Rattle.grid_model.specs.Cells.{place};
 ghost use Rattle.grid_model.specs.ScaleLaws.{IsCell};

@@ -1,5 +1,5 @@
 -- The cell in a place, attribute by attribute.
-use Rattle.std.proofs.Common.{◌⊎◌, inl, inr, ◌≢◌, ◌≡◌, ◌<◌, ◌≤◌, ◌+◌, ◌*◌, ◌/◌, ◌%◌, ℕ, zero, suc, List, [], ◌∷◌, ◌++◌, length, slice_index, slice_set, take, drop, map, slice_get, refl, sym, ap, ◌∙◌, subst, arith, append_assoc}
+use Rattle.std.proofs.Common.{◌⊎◌, inl, inr, ◌≢◌, ◌≡◌, ◌<◌, ◌≤◌, ◌+◌, ◌*◌, ◌/◌, ◌%◌, ℕ, List, [], ◌∷◌, ◌++◌, length, slice_index, slice_set, take, drop, map, slice_get, refl, sym, ap, ◌∙◌, subst, arith, append_assoc}
 use Rattle.std.proofs.Math.Nat.{div-lt_iff_lt-mul}
 use Rattle.std.proofs.lemmas.Bool.{cases_lt}
 use Rattle.std.proofs.lemmas.Nat.{div-add-mod', mod_below}
@@ -8,19 +8,12 @@ use Rattle.std.proofs.lemmas.List.{drop_more, drop_all, take_all, append-nil, le
 use Rattle.grid_model.specs.Lists.{product, choices, below}
 use Rattle.grid_model.specs.Cells.{place}
 use Rattle.grid_model.specs.ScaleLaws.{IsCell}
-use Rattle.grid_model.proofs.Places.{place-on, cell-there}
+use Rattle.grid_model.proofs.Places.{place-on, cell-on, cell-there}
 use Rattle.grid_cells.proofs.Products.{Positive, rest-positive, product-rest, size-step}
 
 -- what is left of a place is that of the other attributes: any cell of them there makes the whole cell
 abbrev pub Completes : List ℕ → List ℕ → ℕ → ℕ → ℕ → Type 0
 Completes ns cell a rest at = (d : List ℕ) → IsCell (drop a ns) d → place (drop a ns) d ≡ rest → place ns (take a cell ++ d) ≡ at
-
-cons-each : (n c : ℕ) (ns d : List ℕ) → c < n → ((b : ℕ) → b < length ns → slice_index d b < slice_index ns b) → (b : ℕ) → b < length (n ∷ ns) → slice_index (c ∷ d) b < slice_index (n ∷ ns) b
-cons-each n c ns d p h zero q = p
-cons-each n c ns d p h (suc b) q = h b (omega (arith, q))
-
-cons-cell : (n c : ℕ) (ns d : List ℕ) → c < n → IsCell ns d → IsCell (n ∷ ns) (c ∷ d)
-cons-cell n c ns d p h = record { count = ap suc h.count; each = cons-each n c ns d p h.each }
 
 -- the interval of an attribute is one of its intervals
 pub interval-below : (ns : List ℕ) (a rest size : ℕ) → a < length ns → 0 < size → size ≡ product (drop (a + 1) ns) → rest < product (drop a ns) → rest / size < slice_index ns a
@@ -35,7 +28,7 @@ completes-more ns cell a rest size at p q s e r h d c f =
     let first = drop_more ns a 0 p in
     let there : place (n ∷ drop (a + 1) ns) (digit ∷ d) ≡ rest = place-on n digit (drop (a + 1) ns) d c.count ∙ (λ i. digit * (sym e i) + f i) ∙ div-add-mod' rest size in
     let whole : place ns (take a cell ++ digit ∷ d) ≡ at = h (digit ∷ d)
-    (subst (λ (ms : List ℕ). IsCell ms (digit ∷ d)) (sym first) (cons-cell n digit (drop (a + 1) ns) d (interval-below ns a rest size p s e r) c))
+    (subst (λ (ms : List ℕ). IsCell ms (digit ∷ d)) (sym first) (cell-on n digit (drop (a + 1) ns) d (interval-below ns a rest size p s e r) c))
     (ap (λ ms. place ms (digit ∷ d)) first ∙ there) in
     ap (λ xs. place ns (xs ++ d)) (take_more_set cell a digit q) ∙ ap (place ns) (append_assoc (take a cell) (digit ∷ []) d) ∙ whole
 

@@ -1,5 +1,5 @@
 //! How many intervals each attribute has, and the places of cells.
-ghost use Rattle.std.specs.Prelude.{◌≡◌, ◌<◌, ◌≤◌, ℕ, List, MatchOption};
+ghost use Rattle.std.specs.Prelude.{◌≡◌, ◌<◌, ℕ, List, MatchOption};
 ghost use Rattle.grid_model.specs.Lists.{product};
 ghost use Rattle.grid_model.specs.Cells.{place};
 ghost use Rattle.grid_model.specs.ScaleLaws.{IsCell};

@@ -1,6 +1,5 @@
 //! The walk through a box of cells.
 ghost use Rattle.std.specs.Prelude.{◌≡◌, ◌<◌, ◌≤◌, ◌+◌, ◌++◌, ◌∷◌, ◌^◌, ℕ, slice_index, take, drop, IfSome, IfNone};
-ghost use Rattle.grid_cells.specs.Boxes.{InBox};
 
 /// The last attribute whose interval may still grow.
 pub fn turning<const K: usize>(hi: &[u32; K], cell: &[u32; K]) -> Option<usize>

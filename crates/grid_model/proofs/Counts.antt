@@ -1,11 +1,12 @@
 -- How often numbers stand in lists, and how many of a list are among others.
-use Rattle.std.proofs.Common.{◌≡◌, ◌<◌, ◌≤◌, ◌+◌, ◌==◌, ◌||◌, ◌&&◌, ℕ, zero, suc, Bool, true, false, cond, T, List, [], ◌∷◌, map, filter, length, Some, IsSome, refl, sym, ap, ◌∙◌, arith, true≢false, eqb-true, eq-eqb, subst, nat_cmp, is_eq, is_lt}
+use Rattle.std.proofs.Common.{◌≡◌, ◌<◌, ◌≤◌, ◌+◌, ◌==◌, ◌||◌, ℕ, zero, suc, Bool, true, false, cond, T, List, [], ◌∷◌, map, filter, length, Some, IsSome, refl, sym, ap, ◌∙◌, arith, true≢false, eqb-true, eq-eqb, subst, nat_cmp, is_eq, is_lt}
 use Rattle.std.specs.Ordering.{eq_by_cmp}
 use Rattle.std.proofs.lemmas.List.FromFn.{length-range_with_len}
 use Rattle.std.specs.List.{range_with_len}
 use Rattle.std.specs.Cmp.{nat_cmp_total, tied_itself}
 use Rattle.std.specs.FinMap.Entries.{find, is_sorted, below_all}
 use Rattle.grid_model.specs.Lists.{below, is_among, AreDistinct}
+use Rattle.grid_model.proofs.Truths.{part-one, part-two, or-left, or-right}
 
 -- how often a number stands in a list
 abbrev pub count : ℕ → List ℕ → ℕ
@@ -76,14 +77,6 @@ count-filter p n (m ∷ ns) = by (p m) (count-filter p n ns)
 -- a part of numbers that stand once stands once
 pub filter-distinct : (p : ℕ → Bool) (ns : List ℕ) → AreDistinct ns → AreDistinct (filter p ns)
 filter-distinct p ns h n = omega (arith, count-filter p n ns, h n)
-
-or-right : (t u : Bool) → u ≡ true → (t || u) ≡ true
-or-right true u e = refl
-or-right false u e = e
-
-or-left : (t u : Bool) → t ≡ true → (t || u) ≡ true
-or-left true u e = refl
-or-left false u e = absurd (true≢false (sym e))
 
 -- what is among a part of a list is among the list, and passes
 pub among-filter : (p : ℕ → Bool) (ns : List ℕ) (n : ℕ) → is_among (filter p ns) n ≡ true → (is_among ns n ≡ true) × (p n ≡ true)
@@ -160,14 +153,6 @@ less-apart n m p = by (m == n) refl
     by : (t : Bool) → (m == n) ≡ t → t ≡ false
     by true e = absurd (subst (λ o. T (is_lt o)) (ap (nat_cmp n) (eqb-true m n e) ∙ tied_itself nat_cmp_total n) p)
     by false e = refl
-
-part-one : (a b : Bool) → T (a && b) → T a
-part-one true b p = tt
-part-one false b p = p
-
-part-two : (a b : Bool) → T (a && b) → T b
-part-two true b p = p
-part-two false b p = absurd p
 
 module _ {X : Type 0} where
   abbrev number : ℕ × X → ℕ

@@ -13,6 +13,7 @@ use Rattle.grid_model.specs.Cuts.{may_grow, cells_with}
 use Rattle.grid_model.specs.Notes.{scales_after}
 use Rattle.grid_model.specs.ScaleLaws.{PartsNumbers}
 use Rattle.grid_model.proofs.Found.{one-number, two-numbers}
+use Rattle.grid_model.proofs.Truths.{or-left, or-right}
 
 -- the scales of a file of that shape
 pub record AreScales (K : ℕ) (shape : Shape) (scales : List (List ℕ)) : Type 0 where
@@ -35,33 +36,25 @@ pub record CutsScale (shape : Shape) (scales : List (List ℕ)) (c : Cut) : Type
   pub above_zero : 1 ≤ c.value
   pub up_to_top : c.value ≤ top
 
-either : (a b : Bool) → b ≡ true → (a || b) ≡ true
-either true b e = refl
-either false b e = e
-
-first_of_two : (a b : Bool) → a ≡ true → (a || b) ≡ true
-first_of_two true b e = refl
-first_of_two false b e = absurd (true≢false (sym e))
-
 -- below a boundary an interval ends
 ends_below : (scale : List ℕ) (v : ℕ) → is_among scale v ≡ true → is_among (map pred scale) (v - 1) ≡ true
 ends_below [] v e = absurd (true≢false (sym e))
 ends_below (b ∷ scale) v e = by (b == v) refl e (ends_below scale v)
   where
     by : (t : Bool) → (b == v) ≡ t → (t || is_among scale v) ≡ true → (is_among scale v ≡ true → is_among (map pred scale) (v - 1) ≡ true) → ((pred b == v - 1) || is_among (map pred scale) (v - 1)) ≡ true
-    by true p e rest = let same : b ≡ v = eqb-true b v p in first_of_two (pred b == v - 1) (is_among (map pred scale) (v - 1)) (eq-eqb (pred b) (v - 1) (omega (arith, same)))
-    by false p e rest = either (pred b == v - 1) (is_among (map pred scale) (v - 1)) (rest e)
+    by true p e rest = let same : b ≡ v = eqb-true b v p in or-left (pred b == v - 1) (is_among (map pred scale) (v - 1)) (eq-eqb (pred b) (v - 1) (omega (arith, same)))
+    by false p e rest = or-right (pred b == v - 1) (is_among (map pred scale) (v - 1)) (rest e)
 
 -- up to a boundary an interval's bounds are ends
 pub drawn-below : (scale : List ℕ) (v lo hi : ℕ) → IsTrue (is_among scale v) → IsTrue (is_drawn scale lo hi) → IsTrue (is_drawn scale lo (v - 1))
 drawn-below scale v lo hi e d =
     both (is_among (lows scale) lo) (is_among (highs scale) (v - 1)) (first (is_among (lows scale) lo) (is_among (highs scale) hi) d)
-    (list_any-append (λ m. m == v - 1) (map pred scale) (top ∷ []) ∙ first_of_two (is_among (map pred scale) (v - 1)) (is_among (top ∷ []) (v - 1)) (ends_below scale v e))
+    (list_any-append (λ m. m == v - 1) (map pred scale) (top ∷ []) ∙ or-left (is_among (map pred scale) (v - 1)) (is_among (top ∷ []) (v - 1)) (ends_below scale v e))
 
 -- and so they are from a boundary on
 pub drawn-above : (scale : List ℕ) (v lo hi : ℕ) → IsTrue (is_among scale v) → IsTrue (is_drawn scale lo hi) → IsTrue (is_drawn scale v hi)
 drawn-above scale v lo hi e d =
-    both (is_among (lows scale) v) (is_among (highs scale) hi) (either (0 == v) (is_among scale v) e) (second (is_among (lows scale) lo) (is_among (highs scale) hi) d)
+    both (is_among (lows scale) v) (is_among (highs scale) hi) (or-right (0 == v) (is_among scale v) e) (second (is_among (lows scale) lo) (is_among (highs scale) hi) d)
 
 module _ {K : ℕ} (parts : PartsNumbers) (shape : Shape) (scales : List (List ℕ)) (old : AreScales K shape scales) where
   grown : (a v : ℕ) → a < K → 1 ≤ v → v ≤ top → is_among (scale_of scales a) v ≡ false → IsTrue (may_grow shape scales a) → AreAfter K shape scales (slice_set scales a (refined (scale_of scales a) v)) a v

@@ -1,30 +1,16 @@
 -- The box that a key is found in.
-use Rattle.std.proofs.Common.{◌≡◌, ℕ, Bool, true, false, cond, ◌&&◌, T, List, [], ◌∷◌, Some, None, refl, sym, ap, subst, ◌∙◌, true≢false, eqb-true, eq-eqb, nat_cmp, is_eq, is_lt, IsSome}
+use Rattle.std.proofs.Common.{◌≡◌, ℕ, Bool, true, false, cond, T, List, [], ◌∷◌, Some, None, refl, sym, ap, subst, ◌∙◌, true≢false, eqb-true, eq-eqb, nat_cmp, is_lt, IsSome}
 use Rattle.std.specs.Ordering.{eq_by_cmp}
 use Rattle.std.specs.Cmp.{unsigned_tied}
-use Rattle.std.specs.declared.cmp.Ordering.{Ordering}
-use Rattle.std.specs.declared.cmp.Ordering.TheVariants.{Less, Equal, Greater}
 use Rattle.std.specs.List as lists
 use Rattle.std.specs.FinMap.Entries.{find, is_sorted, below_all}
 use Rattle.grid_types.specs.Regions.{contains}
 use Rattle.grid_model.specs.Layouts.{Box, Layout, box, holder}
 use Rattle.grid_model.proofs.Boxes.{one-value, some-not-none}
-
-part-one : (a b : Bool) → T (a && b) → T a
-part-one true b p = tt
-part-one false b p = p
-
-part-two : (a b : Bool) → T (a && b) → T b
-part-two true b p = p
-part-two false b p = absurd p
-
-less-not-equal : (o : Ordering) → T (is_lt o) → is_eq o ≡ false
-less-not-equal Less p = refl
-less-not-equal Equal p = absurd p
-less-not-equal Greater p = absurd p
+use Rattle.grid_model.proofs.Truths.{part-one, part-two, less-not-equal}
 
 -- a number below those of all entries is none of theirs
-not-found-below : {X : Type 0} (n : ℕ) (es : List (ℕ × X)) → T (below_all nat_cmp n es) → find nat_cmp n es ≡ None
+pub not-found-below : {X : Type 0} (n : ℕ) (es : List (ℕ × X)) → T (below_all nat_cmp n es) → find nat_cmp n es ≡ None
 not-found-below n [] h = refl
 not-found-below n (e ∷ es) h =
     ap (λ b. cond b (Some e.1) (find nat_cmp n es)) (less-not-equal (nat_cmp n e.0) (part-one (is_lt (nat_cmp n e.0)) (below_all nat_cmp n es) h))

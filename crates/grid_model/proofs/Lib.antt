@@ -1,3 +1,5 @@
+pub mod Truths
+pub mod Corners
 pub mod TableLaws
 pub mod AnswerLaws
 pub mod Listed

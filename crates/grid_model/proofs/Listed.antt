@@ -20,9 +20,6 @@ pub rows-are : {K : ℕ} (t : Table) (q : Query K) (k : List ℕ) → get (rows 
 unfolding rows
 rows-are t q k = find-where_key key_cmp (matches q.sides) k (alike (matches q.sides) k) t
 
-none : (a n : ℕ) → n ≡ a → n - a ≡ 0
-none a n e = omega (arith, e)
-
 module _ {X Y : Type 0} (f : Y → X → Y) where
   -- a fold over one item more
   fold-one : (y : Y) (xs : List X) (x : X) → fold f y (xs ++ x ∷ []) ≡ f (fold f y xs) x
@@ -35,7 +32,7 @@ one-longer xs x a = omega (arith, length-append xs (x ∷ []))
 module _ {K : ℕ} where
   start : (h : History K) → state_at h h.from ≡ h.base
   unfolding state_at
-  start h = ap (λ n. fold entry_effect h.base (take n h.entries)) (none h.from h.from refl)
+  start h = let none : h.from - h.from ≡ 0 = omega arith in ap (λ n. fold entry_effect h.base (take n h.entries)) none
 
   next : (h : History K) (e : Entry K) → state_at (extended h e) (front h + 1) ≡ effect (state_at h (front h)) e.update
   unfolding state_at

@@ -40,7 +40,8 @@ pub one_cell : (K : ℕ) → cells (replicate K []) ≡ 1
 one_cell zero = refl
 one_cell (suc K) = let rest : cells (replicate K []) ≡ 1 = one_cell K in omega (arith, rest)
 
-alike_key : (K x : ℕ) → x < 2 ^ 64 → IsKey K (replicate K x)
+-- a number as often as there are attributes is a key
+pub alike_key : (K x : ℕ) → x < 2 ^ 64 → IsKey K (replicate K x)
 alike_key K x h = record { count = length-replicate K x; in_range = λ a. by a (nat_lt a K) refl }
   where
     by : (a : ℕ) (b : Bool) → nat_lt a K ≡ b → slice_index (replicate K x) a < 2 ^ 64

@@ -76,7 +76,8 @@ each-on : (n c : ℕ) (ns cell : List ℕ) → c < n → IsCell ns cell → (a :
 each-on n c ns cell p h zero q = p
 each-on n c ns cell p h (suc a) q = h.each a (omega (arith, q))
 
-cell-on : (n c : ℕ) (ns cell : List ℕ) → c < n → IsCell ns cell → IsCell (n ∷ ns) (c ∷ cell)
+-- a cell with an interval of one more attribute in front is a cell
+pub cell-on : (n c : ℕ) (ns cell : List ℕ) → c < n → IsCell ns cell → IsCell (n ∷ ns) (c ∷ cell)
 cell-on n c ns cell p h = record { count = omega (arith, h.count); each = each-on n c ns cell p h }
 
 -- the cell in a place is the one whose place it is

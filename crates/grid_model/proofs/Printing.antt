@@ -1,5 +1,5 @@
 -- What is printed is the lines of the replies: none of them has a byte 10 inside.
-use Rattle.std.proofs.Common.{◌≡◌, ◌<◌, ◌+◌, ◌/◌, ◌%◌, ◌==◌, ◌&&◌, ℕ, zero, suc, Bool, true, false, cond, not, List, [], ◌∷◌, ◌++◌, map, length, Option, Some, None, refl, sym, ap, ◌∙◌, arith, true≢false, append_assoc, slice_index, eqb-true, nat_lt, codes}
+use Rattle.std.proofs.Common.{◌≡◌, ◌<◌, ◌+◌, ◌/◌, ◌%◌, ◌==◌, ◌&&◌, ℕ, zero, suc, Bool, true, false, cond, not, List, [], ◌∷◌, ◌++◌, map, length, Option, Some, None, refl, ap, ◌∙◌, arith, append_assoc, slice_index, eqb-true, nat_lt, codes}
 use Rattle.std.specs.Prelude.{decimal}
 use Rattle.std.specs.List.{list_all, flat_map}
 use Rattle.std.specs.Fmt.{digits, digits_onto, digit_glyph}
@@ -14,6 +14,7 @@ use Rattle.grid_types.proofs.Numbers.{first, second, both}
 use Rattle.grid_model.specs.Script.{lines_of, onto_first}
 use Rattle.grid_model.specs.Text.{key_text, hex_text, numbered, put_text, removed_text, got_text, row_text, stat_text, refusal_text, at_place, reply_lines, ended, Group, group_lines, text_lines, text}
 use Rattle.grid_model.specs.ScriptLaws.{PrintsLines}
+use Rattle.grid_model.proofs.Truths.{not-true}
 
 -- a byte is no line's end
 abbrev inner : ℕ → Bool
@@ -32,16 +33,12 @@ module _ {X : Type 0} (p : X → Bool) where
   all-append [] ys h g = g
   all-append (x ∷ xs) ys h g = both (p x) (list_all p (xs ++ ys)) (first (p x) (list_all p xs) h) (all-append xs ys (second (p x) (list_all p xs) h) g)
 
-not-false : (t : Bool) → not t ≡ true → t ≡ false
-not-false true e = absurd (true≢false (sym e))
-not-false false e = refl
-
 -- a line with its end is the first line of what it begins
 line-first : (line rest : List ℕ) → plain line ≡ true → lines_of (line ++ (10 ∷ rest)) ≡ line ∷ lines_of rest
 unfolding lines_of
 line-first [] rest h = refl
 line-first (b ∷ line) rest h =
-    ap (λ t. cond t ([] ∷ lines_of (line ++ (10 ∷ rest))) (onto_first b (lines_of (line ++ (10 ∷ rest))))) (not-false (b == 10) (first (inner b) (plain line) h))
+    ap (λ t. cond t ([] ∷ lines_of (line ++ (10 ∷ rest))) (onto_first b (lines_of (line ++ (10 ∷ rest))))) (not-true (b == 10) (first (inner b) (plain line) h))
     ∙ ap (onto_first b) (line-first line rest (second (inner b) (plain line) h))
 
 -- lines with their ends are these lines

@@ -16,11 +16,11 @@ abbrev value-or : {X E : Type 0} → X → Result X E → X
 value-or d (Ok x) = x
 value-or d (Err e) = d
 
-abbrev error-or : {X E : Type 0} → E → Result X E → E
+abbrev pub error-or : {X E : Type 0} → E → Result X E → E
 error-or d (Ok x) = d
 error-or d (Err e) = e
 
-ok-is-no-err : {X E : Type 0} (x : X) (e : E) → Ok x ≡ Err e → ⊥
+pub ok-is-no-err : {X E : Type 0} (x : X) (e : E) → Ok x ≡ Err e → ⊥
 ok-is-no-err {X = X} {E = E} x e p = true≢false (ap (is-ok {X = X} {E = E}) p)
 
 abbrev is-bad : {K : ℕ} → Option (Meaning K) → Bool

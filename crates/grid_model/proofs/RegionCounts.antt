@@ -8,6 +8,7 @@ use Rattle.std.specs.Cmp.Lexicographic.{nat_list_cmp_total}
 use Rattle.std.specs.FinMap.Entries.{where_key, is_sorted, below_all, by_order}
 use Rattle.grid_types.specs.Keys.{key_cmp}
 use Rattle.grid_model.specs.Tables.{Table, IsTable, get, with_data, without}
+use Rattle.grid_model.proofs.Truths.{part-one, part-two, only-less}
 
 -- the keys of a table's entries
 abbrev pub keys_of : Table → List (List ℕ)
@@ -50,19 +51,6 @@ keys-put k d f (e ∷ t) = by (key_cmp k e.0) (keys-put k d f t)
     by Equal rest = refl
     by Greater rest = ap (λ l. e.0 ∷ l) rest
 
-part_one : (a b : Bool) → T (a && b) → T a
-part_one true b p = tt
-part_one false b p = p
-
-part_two : (a b : Bool) → T (a && b) → T b
-part_two true b p = p
-part_two false b p = absurd p
-
-less : (o : Ordering) → T (is_lt o) → o ≡ Less
-less Less p = refl
-less Equal p = absurd p
-less Greater p = absurd p
-
 at_least : (b : Bool) (n : ℕ) → n ≤ cond b (suc n) n
 at_least true n = omega arith
 at_least false n = omega arith
@@ -74,8 +62,8 @@ at_most false m n h = h
 not_below : (k x : List ℕ) (t : Table) → key_cmp k x ≡ Less → T (below_all key_cmp x t) → get t k ≡ None
 not_below k x [] o h = refl
 not_below k x (e ∷ t) o h =
-    ap (λ r. cond (is_eq r) (Some e.1) (get t k)) (nat_list_cmp_total.trans k x e.0 o (less (key_cmp x e.0) (part_one (is_lt (key_cmp x e.0)) (below_all key_cmp x t) h)))
-    ∙ not_below k x t o (part_two (is_lt (key_cmp x e.0)) (below_all key_cmp x t) h)
+    ap (λ r. cond (is_eq r) (Some e.1) (get t k)) (nat_list_cmp_total.trans k x e.0 o (only-less (key_cmp x e.0) (part-one (is_lt (key_cmp x e.0)) (below_all key_cmp x t) h)))
+    ∙ not_below k x t o (part-two (is_lt (key_cmp x e.0)) (below_all key_cmp x t) h)
 
 -- a key below the first is not there
 missed : (k : List ℕ) (e : List ℕ × List ℕ) (t : Table) → key_cmp k e.0 ≡ Less → T (below_all key_cmp e.0 t) → get (e ∷ t) k ≡ None
@@ -124,11 +112,11 @@ module _ (p : List ℕ → Bool) where
   -- as many pass where the key is there
   pub count-put-there : (k d : List ℕ) (t : Table) → IsTable t → is_some (get t k) ≡ true → count (with_data t k d) ≡ count t
   count-put-there k d [] s there = absurd (true≢false (sym there))
-  count-put-there k d (e ∷ t) s there = by (key_cmp k e.0) refl (count-put-there k d t (part_two _ _ s))
+  count-put-there k d (e ∷ t) s there = by (key_cmp k e.0) refl (count-put-there k d t (part-two _ _ s))
     where
       by : (o : Ordering) → key_cmp k e.0 ≡ o → (is_some (get t k) ≡ true → count (with_data t k d) ≡ count t)
           → count (by_order o ((k, d) ∷ e ∷ t) ((e.0, d) ∷ t) (e ∷ with_data t k d)) ≡ count (e ∷ t)
-      by Less o rest = absurd (true≢false (sym there ∙ ap is_some (missed k e t o (part_one (below_all key_cmp e.0 t) (is_sorted key_cmp t) s))))
+      by Less o rest = absurd (true≢false (sym there ∙ ap is_some (missed k e t o (part-one (below_all key_cmp e.0 t) (is_sorted key_cmp t) s))))
       by Equal o rest = count-first (e.0, d) t ∙ sym (count-first e t)
       by Greater o rest =
           count-first e (with_data t k d) ∙ ap (λ n. cond (p e.0) (suc n) n) (rest (sym (ap (λ r. is_some (cond (is_eq r) (Some e.1) (get t k))) o) ∙ there)) ∙ sym (count-first e t)

@@ -32,6 +32,7 @@ use Rattle.grid_model.proofs.Counts.{filter-distinct, among-filter, among-range,
 use Rattle.grid_model.proofs.Holders.{holder-box}
 use Rattle.grid_model.proofs.Partners.{no-merge-of-put}
 use Rattle.grid_model.proofs.Swapping.{Swaps, IsRooted, plain-swaps, cut-swaps, merge-swaps}
+use Rattle.grid_model.proofs.Truths.{not-true}
 
 module _ {K : ℕ} (shape : Shape) where
   -- a file that was opened has a state
@@ -59,10 +60,6 @@ module _ {K : ℕ} (shape : Shape) where
 -- what is rooted in a state
 rooted-of : {K : ℕ} (shape : Shape) (s : State K) → IsState shape s → IsRooted s.layout s.rooted
 rooted-of shape s h = record { buckets = h.rooted_buckets; distinct_buckets = h.distinct_buckets; parts_there = h.rooted_parts; distinct_parts = h.distinct_parts }
-
-not-true : (t : Bool) → not t ≡ true → t ≡ false
-not-true true e = absurd (true≢false (sym e))
-not-true false e = refl
 
 -- the number of the right part of a cut
 abbrev right-number : Option NoteOf → ℕ

@@ -1,5 +1,5 @@
 -- A lone caller's answers are legal in the history that it makes.
-use Rattle.std.proofs.Common.{◌≡◌, ◌≤◌, ◌+◌, ◌-◌, ◌==◌, ◌&&◌, ◌⊎◌, inl, inr, ℕ, zero, suc, Bool, true, false, cond, List, [], ◌∷◌, map, length, Option, Some, None, IsSome, refl, sym, ap, subst, ◌∙◌, arith, true≢false, slice_get, nat_lt, lt-ltb, replicate, IsTrue, nat_le, leb-true}
+use Rattle.std.proofs.Common.{◌≡◌, ◌≤◌, ◌+◌, ◌-◌, ◌==◌, ◌&&◌, ◌⊎◌, inl, inr, ℕ, zero, suc, Bool, true, false, cond, List, [], ◌∷◌, map, length, Option, Some, None, IsSome, refl, sym, ap, subst, ◌∙◌, arith, true≢false, slice_get, nat_lt, lt-ltb, IsTrue, nat_le, leb-true}
 use Rattle.std.specs.Option.{is_some}
 use Rattle.grid_types.specs.declared.shape.Shape.{Shape}
 use Rattle.grid_types.specs.declared.update.Update.{Update}
@@ -29,6 +29,7 @@ use Rattle.grid_model.specs.Lone.{State, Outcome, record_of, statistics, boundar
 use Rattle.grid_model.proofs.Boxes.{one-value}
 use Rattle.grid_model.proofs.Prepending.{state-later, layout-later, legal-later, noted-longer, start-state, start-layout}
 use Rattle.grid_model.proofs.States.{after-there, remove-lawful, lone-state, opened-state, free-pages, kept-pages}
+use Rattle.grid_model.proofs.NewLayout.{one_cell}
 
 -- a history has this state at its front's place: the place is one of it, and its table and layout stand there
 record StandsAt {K : ℕ} (h : History K) (ls : Layouts K) (s : State K) : Type 0 where
@@ -287,11 +288,6 @@ module _ {K : ℕ} (shape : Shape) (caller : ℕ) (keeps : KeepsSound K) (least 
       by (Stays same legal) m = join-stays shape caller s r rs same legal m
       by (Moves u n moved lawful legal) m = join-moves shape caller s r rs u n moved lawful legal m
 
--- a file without boundaries has one cell
-one-cell : (K : ℕ) → cells (replicate K []) ≡ 1
-one-cell zero = refl
-one-cell (suc K) = omega (arith, one-cell K)
-
 -- a shape has pages
 some-pages : (shape : Shape) → IsTrue (is_shape shape) → 8 ≤ shape.pages
 unfolding is_shape
@@ -302,7 +298,7 @@ some-pages shape h = leb-true 8 shape.pages (first (nat_le 8 shape.pages) (nat_l
 module _ {K : ℕ} (keeps : KeepsSound K) (least : IsLeastUnused K) (merging : MergesTwo K) where
   made-state : (shape : Shape) → IsTrue (is_shape shape) → shape.k ≡ K → IsState shape (made K)
   unfolding made new_layout
-  made-state shape h k = opened-state shape [] (new_layout K) 0 (keeps.new shape h k) (omega (arith, one-cell K, some-pages shape h))
+  made-state shape h k = opened-state shape [] (new_layout K) 0 (keeps.new shape h k) (omega (arith, one_cell K, some-pages shape h))
 
   -- the law of the lone caller
   pub legal-alone : IsLegalAlone K

@@ -1,5 +1,5 @@
 -- What an image stands for: the newest root's table, changed by the batches that join it.
-use Rattle.std.specs.Prelude.{◌≡◌, ◌≢◌, ◌⊎◌, ℕ, ◌+◌, ◌-◌, ◌*◌, ◌/◌, ◌%◌, ◌<◌, ◌≤◌, List, [], ◌∷◌, ◌++◌, ◌==◌, map, filter, flat_map, length, take, drop, fold, sum, slice_get, slice_index, Option, Some, None, Bool, not, nat_lt, if◌then◌else◌, ⊤, IsTrue, All}
+use Rattle.std.specs.Prelude.{◌≡◌, ◌≢◌, ◌⊎◌, ℕ, ◌+◌, ◌-◌, ◌*◌, ◌/◌, ◌%◌, ◌<◌, ◌≤◌, List, [], ◌∷◌, ◌++◌, ◌==◌, map, filter, flat_map, length, take, drop, fold, sum, slice_get, slice_index, Option, Some, None, not, nat_lt, if◌then◌else◌, ⊤, IsTrue, All}
 use Rattle.std.specs.List as lists
 use Rattle.std.specs.List.{list_any}
 use Rattle.std.specs.Option.{option_map_or}
@@ -63,23 +63,28 @@ pub record HasArea (s : Shape) (image : List ℕ) (r : RootFields) (a : Area) : 
   pub lawful : IsAreaOf s r a
   pub pages : (i : ℕ) → i < area_pages s → page_of (table_page s (header_page r.number) i) image ≡ area_page r.number a i
 
+-- the gate page of a half is spelled, with these gates
+pub record HasGatesOf (s : Shape) (image : List ℕ) (half : ℕ) (gates : List ℕ) : Type 0 where
+  pub count : length gates ≡ s.slots
+  pub page : page_of (places.gate_page s half) image ≡ gate_page half gates
+
 -- the gate pages of both halves are spelled, with these gates
 pub record HasGates (s : Shape) (image : List ℕ) (gates : ℕ → List ℕ) : Type 0 where
-  pub count : (half : ℕ) → half < 2 → length (gates half) ≡ s.slots
-  pub pages : (half : ℕ) → half < 2 → page_of (places.gate_page s half) image ≡ gate_page half (gates half)
+  pub first : HasGatesOf s image 0 (gates 0)
+  pub second : HasGatesOf s image 1 (gates 1)
 
 -- a slot page spells a batch
 pub record SpellsBatch {K : ℕ} (bytes : List ℕ) (b : Batch K) : Type 0 where
   pub lawful : IsBatch b
   pub spelled : bytes ≡ slot_page b
 
--- the slots of a half whose gates pass a test, in order
-abbrev pub slots_where : (ℕ → Bool) → List ℕ → ℕ → List (ℕ × ℕ)
-slots_where test gates half = map (λ i. (half, i)) (filter (λ i. test (slice_index gates i)) (below (length gates)))
+-- the open slots of a half, in order: those whose gate is 1
+abbrev pub open_slots_of : List ℕ → ℕ → List (ℕ × ℕ)
+open_slots_of gates half = map (λ i. (half, i)) (filter (λ i. slice_index gates i == 1) (below (length gates)))
 
--- the slots under open gates, by halves and slots
+-- the open slots of the first half, and then those of the second
 abbrev pub open_slots : (ℕ → List ℕ) → List (ℕ × ℕ)
-open_slots gates = slots_where (λ g. g == 1) (gates 0) 0 ++ slots_where (λ g. g == 1) (gates 1) 1
+open_slots gates = open_slots_of (gates 0) 0 ++ open_slots_of (gates 1) 1
 
 -- the slots spell these batches, each its own
 pub record HasBatches {K : ℕ} (s : Shape) (image : List ℕ) (slots : List (ℕ × ℕ)) (batches : List (Batch K)) : Type 0 where

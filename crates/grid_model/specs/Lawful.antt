@@ -76,7 +76,7 @@ pub record IsNotedUpdate {K : ℕ} (u : Noted K) : Type 0 where
   pub update : IsUpdateOf K u.update
   pub note : StandsWith u.update u.note
 
--- a batch has a spelling: 1 to 16 updates, and places that stay below the limit
+-- a batch has a spelling: it has 1 to 16 updates, each with a spelling, a session of 64 bits, and a first place from 1 to 2 ^ 63 - 16, so that each place is below 2 ^ 63
 pub record IsBatch {K : ℕ} (b : Batch K) : Type 0 where
   pub some : 1 ≤ length b.updates
   pub few : length b.updates ≤ 16

@@ -116,6 +116,10 @@ pub record Batch (K : ℕ) : Type 0 where
   pub first : ℕ
   pub updates : List (Noted K)
 
--- a slot page: how many updates, the session, the place of the first, and the updates
+-- the head of a slot page is 96 bytes: its kind, how many updates, the session and the place of the first update, filled up with zeros
+unfoldable pub slot_head : {K : ℕ} → Batch K → List ℕ
+slot_head b = padded 96 (codes "GFJ1" ++ (bytes_of 2 (length b.updates) ++ (0 ∷ 0 ∷ (bytes_of 8 b.session ++ bytes_of 8 b.first))))
+
+-- a slot page is the head, and the updates one after the other, filled up with zeros
 unfoldable pub slot_page : {K : ℕ} → Batch K → List ℕ
-slot_page b = page (codes "GFJ1" ++ (bytes_of 2 (length b.updates) ++ (0 ∷ 0 ∷ (bytes_of 8 b.session ++ bytes_of 8 b.first)))) (flat_map update_bytes b.updates)
+slot_page b = slot_head b ++ padded 4000 (flat_map update_bytes b.updates)

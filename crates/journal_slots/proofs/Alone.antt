@@ -1,16 +1,15 @@
 -- In a page stands one batch at most, and one that stands there is lawful where its fields are.
-use Rattle.std.proofs.Common.{◌≡◌, ◌≤◌, ◌+◌, ◌*◌, ℕ, Bool, true, false, List, length, take, drop, get_or, slice_index, refl, sym, ap, subst, ◌∙◌, arith}
+use Rattle.std.proofs.Common.{◌≡◌, ◌≤◌, ◌+◌, ◌*◌, ℕ, Bool, true, false, List, length, drop, get_or, slice_index, refl, sym, ap, subst, ◌∙◌, arith}
 use Rattle.std.specs.Prelude.{cond}
-use Rattle.std.proofs.lemmas.List.{same_lists, length-take}
+use Rattle.std.proofs.lemmas.List.{same_lists}
 use Rattle.grid_types.specs.declared.note.Cut.{Cut}
 use Rattle.grid_types.specs.declared.note.NoteOf.{NoteOf}
 use Rattle.grid_types.specs.declared.note.NoteOf.TheVariants as note
 use Rattle.grid_types.specs.declared.note.Noted.{Noted}
 use Rattle.grid_types.specs.declared.update.Update.{Update}
 use Rattle.grid_types.specs.declared.update.Update.TheVariants.{Put, Remove}
-use Rattle.grid_types.specs.Keys.{IsKey}
-use Rattle.page_fields.specs.Corners.{CornerAt}
 use Rattle.page_fields.proofs.Places.{one_corner}
+use Rattle.grid_model.proofs.Corners.{corner-is-key, few-taken}
 use Rattle.grid_model.specs.Spellings.{Batch}
 use Rattle.grid_model.specs.Lawful.{IsUpdateOf, StandsWith, IsBatch}
 use Rattle.journal_slots.specs.Reading.{CutAt, NoteAt, ChangeAt, NotedAt, BatchAt, NoteFits, IsLawful}
@@ -75,18 +74,12 @@ one_batch K page a b x y =
     λ i. record { session = session i; first = first i; updates = updates i }
 
 -- lawful fields
-key_fits : (K : ℕ) (page : List ℕ) (at : ℕ) (xs : List ℕ) → CornerAt K page at xs → IsKey K xs
-key_fits K page at xs read = record { count = read.count; in_range = read.in_range }
-
-few_taken : (n : ℕ) (xs : List ℕ) → n ≤ 40 → length (take n xs) ≤ 40
-few_taken n xs le = simp length-take (omega arith)
-
 change_fits : (K : ℕ) (page : List ℕ) (at : ℕ) (u : Update K) → ChangeAt K page at u → IsUpdateOf K u
 change_fits K page at (Put r) x = record {
-  key = key_fits K page (at + 16) r.key.at x.key;
-  value = subst (λ (v : List ℕ). length v ≤ 40) (sym x.value) (few_taken (slice_index page (at + 3)) (drop (at + 48) page) x.short);
+  key = corner-is-key K page (at + 16) r.key.at x.key;
+  value = subst (λ (v : List ℕ). length v ≤ 40) (sym x.value) (few-taken (slice_index page (at + 3)) 40 (drop (at + 48) page) x.short);
 }
-change_fits K page at (Remove k) x = record { key = key_fits K page (at + 16) k.at x.key_is; value = omega arith }
+change_fits K page at (Remove k) x = record { key = corner-is-key K page (at + 16) k.at x.key_is; value = omega arith }
 
 note_fits : (K : ℕ) (page : List ℕ) (at : ℕ) (u : Update K) (n : NoteOf) → NoteAt page at n → NoteFits u n → StandsWith u n
 note_fits K page at u note.Plain x f = tt

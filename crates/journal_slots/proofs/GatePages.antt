@@ -1,21 +1,20 @@
 -- A page whose fields are those of a gate page is the spelling of the gates that it has.
 use Rattle.std.proofs.Common.{◌≡◌, ◌≤◌, ◌<◌, ◌+◌, ◌-◌, ℕ, zero, suc, List, [], ◌∷◌, ◌++◌, length, take, drop, replicate, codes, refl, sym, ap, ◌∙◌, append_assoc, length-append, arith}
-use Rattle.std.proofs.lemmas.List.{drop-drop, take-append-drop, drop_all, append-nil, take_at, length-take-le, length-drop}
+use Rattle.std.proofs.lemmas.List.{drop-drop, take-append-drop, append-nil, take_at, length-take-le, length-drop}
 use Rattle.page_fields.specs.Fields.{bytes_of, AreZeros}
 use Rattle.page_fields.specs.Padded.{padded}
-use Rattle.page_fields.proofs.BytesOf.{length-bytes_of}
+use Rattle.page_fields.proofs.BytesOf.{length-bytes_of, filled_with}
 use Rattle.page_fields.proofs.Places.{behind}
-use Rattle.page_fields.proofs.ZeroParts.{zeros_are, zeros_spelled}
+use Rattle.page_fields.proofs.ZeroParts.{zeros_are, zeros_spelled, zeros_to_end}
 use Rattle.grid_model.specs.Spellings.{page, gate_page}
 use Rattle.journal_slots.specs.Gates.{gates_in, IsGateHead}
-use Rattle.journal_slots.proofs.Parts.{filled}
 
 -- the head of a gate page
 abbrev pub gate_head : ℕ → List ℕ
 gate_head half = padded 96 (codes "GFG1" ++ bytes_of 4 half)
 
 pub gate_head_is : (half : ℕ) → gate_head half ≡ codes "GFG1" ++ (bytes_of 4 half ++ replicate 88 0)
-gate_head_is half = filled 96 88 (codes "GFG1" ++ bytes_of 4 half) (omega (arith, length-bytes_of 4 half)) ∙ simp append_assoc
+gate_head_is half = filled_with 96 88 (codes "GFG1" ++ bytes_of 4 half) (omega (arith, length-bytes_of 4 half)) ∙ simp append_assoc
 
 pub gate_page_is : (half : ℕ) (gates : List ℕ) → gate_page half gates ≡ gate_head half ++ padded 4000 gates
 unfolding gate_page page
@@ -38,11 +37,7 @@ gates_joined half slots bytes two few long h zeros =
     let gates = gates_in slots bytes in
     let size : length gates ≡ slots = length-take-le slots (drop 96 bytes) (simp length-drop (omega arith)) in
     let left : 4096 - (96 + slots) ≡ 4000 - length gates = omega (arith, size) in
-    let tail : drop (96 + slots) bytes ≡ replicate (4000 - length gates) 0 =
-    zeros_are (96 + slots) 4096 bytes (omega arith) (omega arith) zeros
-    ∙ ap (λ (r : List ℕ). replicate (4096 - (96 + slots)) 0 ++ r) (drop_all 4096 bytes (omega arith))
-    ∙ append-nil (replicate (4096 - (96 + slots)) 0)
-    ∙ ap (λ (n : ℕ). replicate n 0) left in
+    let tail : drop (96 + slots) bytes ≡ replicate (4000 - length gates) 0 = zeros_to_end (96 + slots) 4096 bytes (omega arith) long zeros ∙ ap (λ (n : ℕ). replicate n 0) left in
     let body : drop 96 bytes ≡ padded 4000 gates =
     sym (take-append-drop slots (drop 96 bytes)) ∙ ap (λ (r : List ℕ). gates ++ r) (drop-drop slots 96 bytes ∙ ap (λ (k : ℕ). drop k bytes) (omega arith) ∙ tail) in
     let rest : drop 8 bytes ≡ replicate 88 0 ++ padded 4000 gates = zeros_are 8 96 bytes (omega arith) (omega arith) h.rest ∙ ap (λ (r : List ℕ). replicate 88 0 ++ r) body in

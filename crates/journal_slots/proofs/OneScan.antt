@@ -6,15 +6,15 @@ use Rattle.grid_types.specs.declared.shape.Shape.{Shape}
 use Rattle.grid_types.specs.Pages.{page_of}
 use Rattle.grid_types.specs.Shapes as places
 use Rattle.grid_model.specs.Spellings.{Batch, gate_page}
-use Rattle.grid_model.specs.Images.{SpellsBatch, HasBatches, of_session}
+use Rattle.grid_model.specs.Images.{HasGatesOf, SpellsBatch, open_slots_of, HasBatches, of_session}
 use Rattle.journal_slots.specs.Gates.{gates_in}
-use Rattle.journal_slots.specs.Scans.{HasGatesOf, AreBatchesOn, IsScan, open_slots_of}
+use Rattle.journal_slots.specs.Scans.{AreBatchesOn, IsScan}
 use Rattle.journal_slots.proofs.GatePages.{gates_there}
 use Rattle.journal_slots.proofs.Standing.{batch_there}
 use Rattle.journal_slots.proofs.Alone.{one_batch}
 
 -- a page spells one batch at most
-one_spelled : (K : ℕ) (page : List ℕ) (a b : Batch K) → K ≤ 4 → SpellsBatch page a → SpellsBatch page b → a ≡ b
+pub one_spelled : (K : ℕ) (page : List ℕ) (a b : Batch K) → K ≤ 4 → SpellsBatch page a → SpellsBatch page b → a ≡ b
 one_spelled K page a b few x y = one_batch K page a b (batch_there K page a few x.lawful x.spelled) (batch_there K page b few y.lawful y.spelled)
 
 -- the gate page of a half spells the gates that stand in it, and no others

@@ -11,13 +11,11 @@ use Rattle.std.proofs.lemmas.Option.{slice_get_within, get_or_from_slice_get, sl
 use Rattle.grid_types.specs.declared.shape.Shape.{Shape}
 use Rattle.grid_types.specs.Pages.{page_of}
 use Rattle.grid_types.specs.Shapes as places
+use Rattle.page_fields.proofs.Steps.{below_or_at}
 use Rattle.grid_model.specs.Lists.{below}
 use Rattle.grid_model.specs.Spellings.{Batch}
 use Rattle.grid_model.specs.Images.{SpellsBatch, of_session}
 use Rattle.journal_slots.specs.Scans.{AreBatchesOn, SpellsSome, IsMore}
-
-below_or_at : (i n : ℕ) → i < n + 1 → (i < n) ⊎ (i ≡ n)
-below_or_at i n h = grind arith
 
 -- the element of a list and one more at a place is one of the list, or the last
 last_or_within : {X : Type 0} (xs : List X) (x y : X) (i : ℕ) → slice_get (xs ++ x ∷ []) i ≡ Some y → (slice_get xs i ≡ Some y) ⊎ ((i ≡ length xs) × (x ≡ y))

@@ -4,10 +4,9 @@ use Rattle.std.proofs.lemmas.List.{replicate-append-replicate}
 use Rattle.grid_types.specs.declared.note.Noted.{Noted}
 use Rattle.page_fields.specs.Fields.{bytes_of}
 use Rattle.page_fields.specs.Padded.{padded, numbers}
-use Rattle.page_fields.proofs.BytesOf.{length-bytes_of, length-padded}
+use Rattle.page_fields.proofs.BytesOf.{length-bytes_of, length-padded, filled_with}
 use Rattle.grid_model.specs.Notes.{key_of}
-use Rattle.grid_model.specs.Spellings.{Batch, update_code, note_code, note_attribute, note_bucket, note_boundary, data_of, update_bytes}
-use Rattle.journal_slots.specs.Spelling.{head}
+use Rattle.grid_model.specs.Spellings.{Batch, update_code, note_code, note_attribute, note_bucket, note_boundary, data_of, update_bytes, slot_head}
 
 -- zeros behind a field that was filled up
 zeros_behind : (n m : ℕ) (v : List ℕ) → length v ≤ n → padded n v ++ replicate m 0 ≡ v ++ replicate (n + m - length v) 0
@@ -16,13 +15,6 @@ zeros_behind n m v le =
     let all : n - length v + m ≡ n + m - length v = omega arith in
     append_assoc v (replicate (n - length v) 0) (replicate m 0)
     ∙ ap (λ (z : List ℕ). v ++ z) (replicate-append-replicate {A = ℕ} (n - length v) m 0 ∙ ap (λ (k : ℕ). replicate {A = ℕ} k 0) all)
-
--- a field with so many zeros behind it
-pub filled : (n m : ℕ) (v : List ℕ) → length v + m ≡ n → padded n v ≡ v ++ replicate m 0
-unfolding padded
-filled n m v e =
-    let rest : n - length v ≡ m = omega arith in
-    ap (λ (k : ℕ). v ++ replicate {A = ℕ} k 0) rest
 
 -- the fields of an update, and what stands behind them
 abbrev pub fields_of : {K : ℕ} → Noted K → List ℕ → List ℕ
@@ -40,7 +32,7 @@ update_is u key le =
     let value : length v ≡ 40 = length-padded 40 (data_of u.update) le in
     let long : length (n4 ++ (n8 ++ (k ++ v))) ≡ 84 = length-append n4 (n8 ++ (k ++ v)) ∙ omega (arith, length-append n8 (k ++ v), length-append k v, length-bytes_of 4 (note_bucket u.note), length-bytes_of 8 (note_boundary u.note), key, value) in
     let four : List ℕ = update_code u.update ∷ note_code u.note ∷ note_attribute u.note ∷ length (data_of u.update) ∷ [] in
-    filled 96 8 (four ++ (n4 ++ (n8 ++ (k ++ v)))) (omega (arith, long)) ∙ simp append_assoc
+    filled_with 96 8 (four ++ (n4 ++ (n8 ++ (k ++ v)))) (omega (arith, long)) ∙ simp append_assoc
 
 -- the front of a page once an update was written behind it, field by field
 pub update_written : {K : ℕ} (u : Noted K) (front v a b c d e f : List ℕ) → length (padded 32 (numbers (key_of u.update))) ≡ 32 → length (data_of u.update) ≤ 40 → v ≡ data_of u.update
@@ -55,17 +47,17 @@ update_written u front v a b c d e f key le ev ea eb ec ed ee ef =
     fields ∙ rw (update_is u key le, tail) refl
 
 -- the head, field by field
-pub head_is : {K : ℕ} (b : Batch K) → head b ≡ codes "GFJ1" ++ (bytes_of 2 (length b.updates) ++ (0 ∷ 0 ∷ (bytes_of 8 b.session ++ (bytes_of 8 b.first ++ replicate 72 0))))
-unfolding head
+pub head_is : {K : ℕ} (b : Batch K) → slot_head b ≡ codes "GFJ1" ++ (bytes_of 2 (length b.updates) ++ (0 ∷ 0 ∷ (bytes_of 8 b.session ++ (bytes_of 8 b.first ++ replicate 72 0))))
+unfolding slot_head
 head_is b =
     let n2 = bytes_of 2 (length b.updates) in
     let s8 = bytes_of 8 b.session in
     let f8 = bytes_of 8 b.first in
     let long : length (n2 ++ (0 ∷ 0 ∷ (s8 ++ f8))) ≡ 20 = length-append n2 (0 ∷ 0 ∷ (s8 ++ f8)) ∙ omega (arith, length-append s8 f8, length-bytes_of 2 (length b.updates), length-bytes_of 8 b.session, length-bytes_of 8 b.first) in
-    filled 96 72 (codes "GFJ1" ++ (n2 ++ (0 ∷ 0 ∷ (s8 ++ f8)))) (omega (arith, long)) ∙ simp append_assoc
+    filled_with 96 72 (codes "GFJ1" ++ (n2 ++ (0 ∷ 0 ∷ (s8 ++ f8)))) (omega (arith, long)) ∙ simp append_assoc
 
 -- the front of a page once a head was written, field by field
 pub head_written : {K : ℕ} (b : Batch K) (front a1 a2 a3 a4 a5 a6 : List ℕ) (count : ℕ) → count ≡ length b.updates
     → a1 ≡ front ++ codes "GFJ1" → a2 ≡ a1 ++ bytes_of 2 count → a3 ≡ a2 ++ 0 ∷ 0 ∷ [] → a4 ≡ a3 ++ bytes_of 8 b.session → a5 ≡ a4 ++ bytes_of 8 b.first → a6 ≡ a5 ++ replicate 72 0
-    → a6 ≡ front ++ head b
+    → a6 ≡ front ++ slot_head b
 head_written b front a1 a2 a3 a4 a5 a6 count el e1 e2 e3 e4 e5 e6 = e6 ∙ rw (e5, e4, e3, e2, e1, el, head_is b) (simp append_assoc)

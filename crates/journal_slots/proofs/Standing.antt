@@ -7,21 +7,17 @@ use Rattle.grid_types.specs.declared.note.NoteOf.TheVariants as note
 use Rattle.grid_types.specs.declared.note.Noted.{Noted}
 use Rattle.grid_types.specs.declared.update.Update.{Update}
 use Rattle.grid_types.specs.declared.update.Update.TheVariants.{Put, Remove}
-use Rattle.grid_types.specs.Keys.{IsKey}
 use Rattle.page_fields.specs.Fields.{number, bytes_of}
 use Rattle.page_fields.specs.Padded.{padded, numbers}
 use Rattle.page_fields.specs.Corners.{CornerAt}
-use Rattle.page_fields.proofs.BytesOf.{number-back, length-bytes_of, length-numbers, length-padded}
+use Rattle.page_fields.proofs.BytesOf.{number-back, length-bytes_of, length-padded}
 use Rattle.page_fields.proofs.Places.{behind, byte_there, part_at, corner_there}
 use Rattle.grid_model.specs.Notes.{key_of}
-use Rattle.grid_model.specs.Spellings.{Batch, update_code, note_code, note_attribute, note_bucket, note_boundary, data_of, update_bytes, page, slot_page}
+use Rattle.grid_model.specs.Spellings.{Batch, update_code, note_code, note_attribute, note_bucket, note_boundary, data_of, update_bytes, slot_head, slot_page}
+use Rattle.grid_model.proofs.Corners.{length-key}
 use Rattle.grid_model.specs.Lawful.{IsNotedUpdate, StandsWith, IsBatch}
-use Rattle.journal_slots.specs.Spelling.{head}
 use Rattle.journal_slots.specs.Reading.{NoteAt, ChangeAt, NotedAt, UpdatesAt, BatchAt}
 use Rattle.journal_slots.proofs.Parts.{update_is, head_is}
-
-length_key : (K : ℕ) (xs : List ℕ) → K ≤ 4 → IsKey K xs → length (padded 32 (numbers xs)) ≡ 32
-length_key K xs few fits = length-padded 32 (numbers xs) (omega (arith, length-numbers xs, fits.count))
 
 pub length_update : {K : ℕ} (u : Noted K) → K ≤ 4 → IsNotedUpdate u → length (update_bytes u) ≡ 96
 length_update {K} u few fits =
@@ -30,7 +26,7 @@ length_update {K} u few fits =
     let n4 = bytes_of 4 (note_bucket u.note) in
     let n8 = bytes_of 8 (note_boundary u.note) in
     let z : List ℕ = replicate 8 0 in
-    let key : length k ≡ 32 = length_key K (key_of u.update) few fits.update.key in
+    let key : length k ≡ 32 = length-key K (key_of u.update) few fits.update.key in
     let value : length v ≡ 40 = length-padded 40 (data_of u.update) fits.update.value in
     let tail : length (n4 ++ (n8 ++ (k ++ (v ++ z)))) ≡ 92 = length-append n4 (n8 ++ (k ++ (v ++ z)))
     ∙ omega (arith, length-append n8 (k ++ (v ++ z)), length-append k (v ++ z), length-append v z, length-bytes_of 4 (note_bucket u.note), length-bytes_of 8 (note_boundary u.note), key, value) in
@@ -57,14 +53,14 @@ fields_there K page at u rest few fits e =
     let zs : List ℕ = replicate (40 - length value) 0 in
     let tail = value ++ (zs ++ (replicate 8 0 ++ rest)) in
     let at0 : drop at page ≡ update_code u.update ∷ note_code u.note ∷ note_attribute u.note ∷ length value ∷ (n4 ++ (n8 ++ (key ++ tail))) =
-    e ∙ ap (λ (b : List ℕ). b ++ rest) (update_is u (length_key K (key_of u.update) few fits.update.key) fits.update.value) ∙ simp append_assoc in
+    e ∙ ap (λ (b : List ℕ). b ++ rest) (update_is u (length-key K (key_of u.update) few fits.update.key) fits.update.value) ∙ simp append_assoc in
     let at1 : drop (at + 1) page ≡ note_code u.note ∷ note_attribute u.note ∷ length value ∷ (n4 ++ (n8 ++ (key ++ tail))) = behind at 1 (at + 1) page (update_code u.update ∷ []) _ at0 refl refl in
     let at2 : drop (at + 2) page ≡ note_attribute u.note ∷ length value ∷ (n4 ++ (n8 ++ (key ++ tail))) = behind (at + 1) 1 (at + 2) page (note_code u.note ∷ []) _ at1 refl (omega arith) in
     let at3 : drop (at + 3) page ≡ length value ∷ (n4 ++ (n8 ++ (key ++ tail))) = behind (at + 2) 1 (at + 3) page (note_attribute u.note ∷ []) _ at2 refl (omega arith) in
     let at4 : drop (at + 4) page ≡ n4 ++ (n8 ++ (key ++ tail)) = behind (at + 3) 1 (at + 4) page (length value ∷ []) _ at3 refl (omega arith) in
     let at8 : drop (at + 8) page ≡ n8 ++ (key ++ tail) = behind (at + 4) 4 (at + 8) page n4 _ at4 (length-bytes_of 4 (note_bucket u.note)) (omega arith) in
     let at16 : drop (at + 16) page ≡ key ++ tail = behind (at + 8) 8 (at + 16) page n8 _ at8 (length-bytes_of 8 (note_boundary u.note)) (omega arith) in
-    let at48 : drop (at + 48) page ≡ tail = behind (at + 16) 32 (at + 48) page key tail at16 (length_key K (key_of u.update) few fits.update.key) (omega arith) in
+    let at48 : drop (at + 48) page ≡ tail = behind (at + 16) 32 (at + 48) page key tail at16 (length-key K (key_of u.update) few fits.update.key) (omega arith) in
     let size : slice_index page (at + 3) ≡ length value = byte_there (at + 3) page (length value) _ at3 in
     record {
       kind = byte_there at page (update_code u.update) _ at0;
@@ -115,8 +111,8 @@ updates_there K page zs us few fits e i d lt =
     noted_there K page (96 + 96 * i) (get_or us i d) p.0 few (fits i d lt) (sym (drop-drop (96 * i) 96 page) ∙ ap (drop (96 * i)) e ∙ p.1)
 
 -- the page of a batch is its head and its updates, filled up with zeros
-pub page_is : {K : ℕ} (b : Batch K) → slot_page b ≡ head b ++ padded 4000 (flat_map update_bytes b.updates)
-unfolding slot_page page head
+pub page_is : {K : ℕ} (b : Batch K) → slot_page b ≡ slot_head b ++ padded 4000 (flat_map update_bytes b.updates)
+unfolding slot_page
 page_is b = refl
 
 -- a batch stands where it is spelled

@@ -13,7 +13,7 @@ pub record IsGatePage (half slots : ℕ) (page : List ℕ) : Type 0 where
 abbrev pub gates_in : ℕ → List ℕ → List ℕ
 gates_in slots page = take slots (drop 96 page)
 
--- the head of a gate page: its kind, its half, and zeros
+-- a page begins as the gate page of a half does: GFG1, the half in four bytes, and zeros up to byte 96
 pub record IsGateHead (half : ℕ) (page : List ℕ) : Type 0 where
   pub front : take 8 page ≡ 71 ∷ 70 ∷ 71 ∷ 49 ∷ 0 ∷ 0 ∷ 0 ∷ half ∷ []
   pub rest : AreZeros 8 96 page

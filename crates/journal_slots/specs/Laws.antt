@@ -4,5 +4,5 @@ use Rattle.grid_model.specs.Spellings.{Batch}
 use Rattle.grid_model.specs.Images.{SpellsBatch}
 
 -- no page spells two batches
-abbrev pub SpellsOne : ℕ → Type 0
-SpellsOne K = (page : List ℕ) (a b : Batch K) → K ≤ 4 → SpellsBatch page a → SpellsBatch page b → a ≡ b
+abbrev pub SpellsOneBatch : ℕ → Type 0
+SpellsOneBatch K = (page : List ℕ) (a b : Batch K) → K ≤ 4 → SpellsBatch page a → SpellsBatch page b → a ≡ b

@@ -1,5 +1,4 @@
 pub mod Batches
-pub mod Spelling
 pub mod Reading
 pub mod Laws
 pub mod Gates

@@ -1,27 +1,18 @@
 -- What a scan of a half of the journal finds.
-use Rattle.std.specs.Prelude.{◌≡◌, ◌⊎◌, ◌<◌, ◌==◌, ◌++◌, ◌∷◌, [], ℕ, List, length, slice_index}
+use Rattle.std.specs.Prelude.{◌≡◌, ◌⊎◌, ◌<◌, ◌++◌, ◌∷◌, [], ℕ, List, slice_index}
 use Rattle.grid_types.specs.declared.shape.Shape.{Shape}
 use Rattle.grid_types.specs.declared.refusal.Refusal.{Refusal}
 use Rattle.grid_types.specs.declared.refusal.Refusal.TheVariants as refusal
 use Rattle.grid_types.specs.Pages.{page_of}
 use Rattle.grid_types.specs.Shapes as places
-use Rattle.grid_model.specs.Spellings.{Batch, gate_page}
-use Rattle.grid_model.specs.Images.{SpellsBatch, HasBatches, slots_where, of_session}
-
--- the gate page of a half is spelled, with these gates
-pub record HasGatesOf (s : Shape) (image : List ℕ) (half : ℕ) (gates : List ℕ) : Type 0 where
-  pub count : length gates ≡ s.slots
-  pub page : page_of (places.gate_page s half) image ≡ gate_page half gates
+use Rattle.grid_model.specs.Spellings.{Batch}
+use Rattle.grid_model.specs.Images.{HasGatesOf, SpellsBatch, open_slots_of, HasBatches, of_session}
 
 -- these are the batches of a session on some slots: each of the slots spells a batch, and of these they are those of the session
 pub record AreBatchesOn {K : ℕ} (s : Shape) (image : List ℕ) (slots : List (ℕ × ℕ)) (session : ℕ) (batches : List (Batch K)) : Type 0 where
   pub all : List (Batch K)
   pub each : HasBatches s image slots all
   pub are : batches ≡ of_session session all
-
--- the open slots of a half, in order: those whose gate is 1
-abbrev pub open_slots_of : List ℕ → ℕ → List (ℕ × ℕ)
-open_slots_of gates half = slots_where (λ g. g == 1) gates half
 
 -- a scan of a half for a session finds these batches: its gate page is spelled, and they are the session's on its open slots, in order
 pub record IsScan {K : ℕ} (s : Shape) (image : List ℕ) (half session : ℕ) (batches : List (Batch K)) : Type 0 where

@@ -6,7 +6,8 @@ ghost use Rattle.grid_types.specs.Shapes.{is_shape, file_pages, slot_page};
 ghost use Rattle.disk_trait.specs.Causes.{Rose};
 ghost use Rattle.disk_trait.specs.Moments.{LeavesOnly};
 ghost use Rattle.grid_model.specs.Spellings as model;
-ghost use Rattle.journal_slots.specs.Scans.{HasGatesOf, AreBatchesOn, IsScan, SpellsSome, IsFirstBadSlot, IsFirstBad, IsRefusalOfScan, open_slots_of, IsMore, SpellsOf, IsToKeep, WantsMemory};
+ghost use Rattle.grid_model.specs.Images.{HasGatesOf, open_slots_of};
+ghost use Rattle.journal_slots.specs.Scans.{AreBatchesOn, IsScan, SpellsSome, IsFirstBadSlot, IsFirstBad, IsRefusalOfScan, IsMore, SpellsOf, IsToKeep, WantsMemory};
 
 use crate::gates::{is_gate_page, is_open};
 use crate::pages::read_page;

@@ -1,10 +1,9 @@
 //! The page of a batch.
 ghost use Rattle.std.specs.Prelude.{◌≡◌, ◌≤◌, ◌+◌, ◌++◌, take};
-ghost use Rattle.grid_model.specs.Spellings.{update_bytes, slot_page};
+ghost use Rattle.grid_model.specs.Spellings.{update_bytes, slot_head, slot_page};
 ghost use Rattle.grid_model.specs.Lawful.{IsBatch};
 ghost use Rattle.grid_model.specs.Images.{SpellsBatch};
 ghost use Rattle.journal_slots.specs.Batches.{batch_of};
-ghost use Rattle.journal_slots.specs.Spelling.{head};
 
 use crate::Batch;
 use crate::fields::{attribute, boundary, bucket, bytes, code, key, kind};
@@ -33,7 +32,7 @@ fn put_update<const K: usize>(page: &mut [u8; 4096], at: usize, noted: &Noted<K>
 }
 
 fn put_head<const K: usize>(page: &mut [u8; 4096], batch: &Batch<K>)
-    ensures front { take 96 page.new ≡ head (batch_of batch.now) }
+    ensures front { take 96 page.new ≡ slot_head (batch_of batch.now) }
 {
     put_bytes(page, 0, b"GFJ1");
     set_u16(page, 4, batch.updates.len() as u16);

@@ -35,6 +35,9 @@ pub padded_is : (n k : ℕ) (bytes : List ℕ) → k ≡ n - length bytes → by
 unfolding padded
 padded_is n k bytes is = ap (λ (m : ℕ). bytes ++ replicate m 0) is
 
+pub filled_with : (n m : ℕ) (bytes : List ℕ) → length bytes + m ≡ n → padded n bytes ≡ bytes ++ replicate m 0
+filled_with n m bytes e = sym (padded_is n m bytes (omega (arith, e)))
+
 pub length-padded : (n : ℕ) (bytes : List ℕ) → length bytes ≤ n → length (padded n bytes) ≡ n
 unfolding padded
 length-padded n bytes le = length-append bytes (replicate (n - length bytes) 0) ∙ omega (arith, length-replicate {A = ℕ} (n - length bytes) 0)

@@ -1,3 +1,4 @@
+pub mod Bodies
 pub mod BytesOf
 pub mod Entries
 pub mod Joining

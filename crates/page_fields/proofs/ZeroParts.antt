@@ -1,7 +1,7 @@
 -- Parts of a page that are zeros.
 use Rattle.std.proofs.Common.{◌≡◌, ◌≤◌, ◌<◌, ◌+◌, ◌-◌, ℕ, List, ◌++◌, length, take, drop, get_or, refl, sym, ap, ◌∙◌, arith}
 use Rattle.std.specs.Prelude.{replicate}
-use Rattle.std.proofs.lemmas.List.{drop-drop, take-append-drop, take-replicate, get_or_append_left, get_or-take, get_or-drop, get_or-replicate, same_lists, get_or_default, length-drop, length-take-le, length-replicate}
+use Rattle.std.proofs.lemmas.List.{drop-drop, take-append-drop, drop_all, append-nil, take-replicate, get_or_append_left, get_or-take, get_or-drop, get_or-replicate, same_lists, get_or_default, length-drop, length-take-le, length-replicate}
 use Rattle.page_fields.specs.Fields.{AreZeros}
 
 -- a number of the part
@@ -48,3 +48,10 @@ zeros_are from to page le low zeros =
     sym (take-append-drop n (drop from page))
     ∙ ap (λ (z : List ℕ). z ++ drop n (drop from page)) same
     ∙ ap (λ (r : List ℕ). replicate n 0 ++ r) (drop-drop n from page ∙ ap (λ (k : ℕ). drop k page) (omega arith))
+
+-- a page that is zeros from an offset on ends in as many zeros
+pub zeros_to_end : (from size : ℕ) (page : List ℕ) → from ≤ size → length page ≡ size → AreZeros from size page → drop from page ≡ replicate (size - from) 0
+zeros_to_end from size page le long zeros =
+    zeros_are from size page le (omega (arith, long)) zeros
+    ∙ ap (λ (r : List ℕ). replicate (size - from) 0 ++ r) (drop_all size page (omega (arith, long)))
+    ∙ append-nil (replicate (size - from) 0)

@@ -1,16 +1,17 @@
 -- A page whose fields are those of a page of a table area is the spelling of the entries that it has.
 use Rattle.std.proofs.Common.{◌≡◌, ◌≤◌, ◌+◌, ◌-◌, ◌*◌, ℕ, List, ◌++◌, length, drop, replicate, sym, ap, ◌∙◌, append_assoc, arith, refl}
 use Rattle.std.specs.List.{flat_map}
-use Rattle.std.proofs.lemmas.List.{take-append-drop, drop_all, append-nil}
-use Rattle.page_fields.specs.Fields.{bytes_of, AreZeros}
+use Rattle.std.proofs.lemmas.List.{take-append-drop}
+use Rattle.page_fields.specs.Fields.{bytes_of}
 use Rattle.page_fields.specs.Padded.{padded}
-use Rattle.page_fields.proofs.Entries.{AreBytes, number_is, entries_in, length-entries_in, entries_are}
+use Rattle.page_fields.proofs.Bodies.{zeros_left, body_read}
+use Rattle.page_fields.proofs.Entries.{AreBytes, number_is, entries_in, length-entries_in}
 use Rattle.page_fields.proofs.ZeroParts.{zeros_are}
 use Rattle.grid_model.specs.Spellings.{area_head}
 use Rattle.root_pages.specs.Areas.{entries_page}
 use Rattle.root_pages.specs.Reading.{IsHead, IsPageUpTo}
 use Rattle.root_pages.proofs.Heads.{head_is}
-use Rattle.root_pages.proofs.Standing.{rest_of, page_is}
+use Rattle.root_pages.proofs.Standing.{page_is}
 
 head_joined : (kind : List ℕ) (root index count : ℕ) (page : List ℕ) → length kind ≡ 4 → IsHead kind root index count page → 96 ≤ length page → AreBytes page → page ≡ padded 96 (area_head kind index count root) ++ drop 96 page
 head_joined kind root index count page four h low fits =
@@ -25,21 +26,11 @@ head_joined kind root index count page four h low fits =
     let joined : (kind ++ (bytes_of 4 index ++ (bytes_of 4 count ++ (replicate 4 0 ++ (bytes_of 8 root ++ replicate 72 0))))) ++ body ≡ kind ++ (bytes_of 4 index ++ (bytes_of 4 count ++ (replicate 4 0 ++ from16))) = simp append_assoc in
     fields ∙ sym joined ∙ ap (λ (k : List ℕ). k ++ body) (sym (head_is kind index count root four))
 
-body_joined : (w count : ℕ) (page : List ℕ) → w * count ≤ 4000 → AreZeros (96 + w * count) 4096 page → length page ≡ 4096 → AreBytes page → drop 96 page ≡ flat_map (bytes_of w) (entries_in w 96 count page) ++ rest_of w count
-body_joined w count page few zeros long fits =
-    let left : 4096 - (96 + w * count) ≡ 4000 - w * count = omega arith in
-    let tail : drop (96 + w * count) page ≡ rest_of w count =
-    zeros_are (96 + w * count) 4096 page (omega arith) (omega arith) zeros
-    ∙ ap (λ (r : List ℕ). replicate (4096 - (96 + w * count)) 0 ++ r) (drop_all 4096 page (omega arith))
-    ∙ append-nil (replicate (4096 - (96 + w * count)) 0)
-    ∙ ap (λ (n : ℕ). replicate n 0) left in
-    entries_are w 96 count page (omega arith) fits ∙ ap (λ (r : List ℕ). flat_map (bytes_of w) (entries_in w 96 count page) ++ r) tail
-
 -- a page with that head, and zeros behind so many entries, is the page of the entries that stand in it
 pub joined : (w : ℕ) (kind : List ℕ) (root index count : ℕ) (page : List ℕ) → length kind ≡ 4 → w * count ≤ 4000 → length page ≡ 4096 → AreBytes page → IsPageUpTo kind root index count (96 + w * count) page → page ≡ entries_page w kind root index (entries_in w 96 count page)
 joined w kind root index count page four few long fits p =
     let entries = entries_in w 96 count page in
-    let spelled : page ≡ padded 96 (area_head kind index count root) ++ (flat_map (bytes_of w) entries ++ rest_of w count) = head_joined kind root index count page four p.head (omega (arith, long)) fits ∙ ap (λ (r : List ℕ). padded 96 (area_head kind index count root) ++ r) (body_joined w count page few p.zeros long fits) in
+    let spelled : page ≡ padded 96 (area_head kind index count root) ++ (flat_map (bytes_of w) entries ++ zeros_left w count) = head_joined kind root index count page four p.head (omega (arith, long)) fits ∙ ap (λ (r : List ℕ). padded 96 (area_head kind index count root) ++ r) (body_read w count page few p.zeros long fits) in
     spelled
-    ∙ ap (λ (n : ℕ). padded 96 (area_head kind index n root) ++ (flat_map (bytes_of w) entries ++ rest_of w n)) (sym (length-entries_in w 96 count page))
+    ∙ ap (λ (n : ℕ). padded 96 (area_head kind index n root) ++ (flat_map (bytes_of w) entries ++ zeros_left w n)) (sym (length-entries_in w 96 count page))
     ∙ sym (page_is w kind root index entries)

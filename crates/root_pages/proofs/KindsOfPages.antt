@@ -4,7 +4,7 @@ use Rattle.page_fields.proofs.Entries.{AreBytes, entries_in, length-entries_in, 
 use Rattle.grid_model.specs.Spellings.{scale_page, list_page, bucket_table_page}
 use Rattle.root_pages.specs.Areas.{SpellsEntries, HasEntries, entries_page}
 use Rattle.root_pages.specs.Reading.{IsPageUpTo}
-use Rattle.root_pages.specs.Laws.{IsOne}
+use Rattle.root_pages.specs.Laws.{IsOneList}
 use Rattle.root_pages.proofs.Heads.{scale_is, list_is, table_is}
 use Rattle.root_pages.proofs.Standing.{Fits, PageAt, page_there, one_list}
 use Rattle.root_pages.proofs.Joining.{joined}
@@ -41,7 +41,7 @@ module _ (w : ℕ) (kind : List ℕ) (spelling : ℕ → ℕ → List ℕ → Li
       page_there w kind root index page entries fits (s.bytes ∙ k.same root index entries)
 
   -- a page spells one list
-  pub one_list_of : (root other index place : ℕ) (page entries more : List ℕ) → SpellsEntries spelling most bits root index page entries → SpellsEntries spelling most bits other place page more → IsOne root other index place entries more
+  pub one_list_of : (root other index place : ℕ) (page entries more : List ℕ) → SpellsEntries spelling most bits root index page entries → SpellsEntries spelling most bits other place page more → IsOneList root other index place entries more
   one_list_of root other index place page entries more s t =
       let one = one_list w kind root other index place page entries more (entries_there root index page entries s) (entries_there other place page more t) in
       record { root_is = one.0; index_is = one.1; entries_are = one.2 }

@@ -4,6 +4,7 @@ use Rattle.std.specs.List.{flat_map}
 use Rattle.std.proofs.lemmas.List.{take_at, append-nil, same_lists, get_or_default}
 use Rattle.page_fields.specs.Fields.{number, bytes_of, AreZeros}
 use Rattle.page_fields.specs.Padded.{padded}
+use Rattle.page_fields.proofs.Bodies.{zeros_left, body_spelled}
 use Rattle.page_fields.proofs.BytesOf.{number-back, length-bytes_of}
 use Rattle.page_fields.proofs.Entries.{length-entries, entry_there}
 use Rattle.page_fields.proofs.Places.{behind}
@@ -13,19 +14,11 @@ use Rattle.root_pages.specs.Areas.{entries_page}
 use Rattle.root_pages.specs.Reading.{IsHead}
 use Rattle.root_pages.proofs.Heads.{head_is}
 
--- the zeros behind n entries of w bytes
-abbrev pub rest_of : ℕ → ℕ → List ℕ
-rest_of w n = replicate (4000 - w * n) 0
-
-filled : (w : ℕ) (entries : List ℕ) → padded 4000 (flat_map (bytes_of w) entries) ≡ flat_map (bytes_of w) entries ++ rest_of w (length entries)
-unfolding padded
-filled w entries = ap (λ (n : ℕ). flat_map (bytes_of w) entries ++ replicate (4000 - n) 0) (length-entries w entries)
-
 -- a page of entries is its head, its entries and zeros
 pub page_is : (w : ℕ) (kind : List ℕ) (root index : ℕ) (entries : List ℕ)
-    → entries_page w kind root index entries ≡ padded 96 (area_head kind index (length entries) root) ++ (flat_map (bytes_of w) entries ++ rest_of w (length entries))
+    → entries_page w kind root index entries ≡ padded 96 (area_head kind index (length entries) root) ++ (flat_map (bytes_of w) entries ++ zeros_left w (length entries))
 unfolding entries_page page
-page_is w kind root index entries = ap (λ (body : List ℕ). padded 96 (area_head kind index (length entries) root) ++ body) (filled w entries)
+page_is w kind root index entries = ap (λ (body : List ℕ). padded 96 (area_head kind index (length entries) root) ++ body) (body_spelled w entries)
 
 -- the numbers of such a page are in their ranges, and its entries fit on it
 pub record Fits (w : ℕ) (kind : List ℕ) (root index : ℕ) (entries : List ℕ) : Type 0 where
@@ -47,7 +40,7 @@ pub page_there : (w : ℕ) (kind : List ℕ) (root index : ℕ) (page entries : 
 page_there w kind root index page entries f is =
     let n = length entries in
     let flat = flat_map (bytes_of w) entries in
-    let body = flat ++ rest_of w n in
+    let body = flat ++ zeros_left w n in
     let from24 = replicate 72 0 ++ body in
     let from16 = bytes_of 8 root ++ from24 in
     let from12 = replicate 4 0 ++ from16 in
@@ -60,7 +53,7 @@ page_there w kind root index page entries f is =
     let at16 : drop 16 page ≡ from16 = behind 12 4 16 page (replicate 4 0) from16 at12 refl refl in
     let at24 : drop 24 page ≡ from24 = behind 16 8 24 page (bytes_of 8 root) from24 at16 (length-bytes_of 8 root) refl in
     let at96 : drop 96 page ≡ body = behind 24 72 96 page (replicate 72 0) body at24 refl refl in
-    let end : drop (96 + w * n) page ≡ rest_of w n = behind 96 (w * n) (96 + w * n) page flat (rest_of w n) at96 (length-entries w entries) refl in
+    let end : drop (96 + w * n) page ≡ zeros_left w n = behind 96 (w * n) (96 + w * n) page flat (zeros_left w n) at96 (length-entries w entries) refl in
     record {
       front = record {
         kind_is = ap (take 4) at0 ∙ take_at kind from4 4 f.four;
@@ -70,8 +63,8 @@ page_there w kind root index page entries f is =
         root_is = ap (number 8) at16 ∙ number-back 8 root from24 (omega (arith, f.root_in_range));
         rest = zeros_spelled 24 96 72 page body at24 (omega arith);
       };
-      each = entry_there w 96 page entries (rest_of w n) at96 f.in_range;
-      zeros = zeros_spelled (96 + w * n) 4096 (4000 - w * n) page [] (end ∙ sym (append-nil (rest_of w n))) (omega (arith, f.room));
+      each = entry_there w 96 page entries (zeros_left w n) at96 f.in_range;
+      zeros = zeros_spelled (96 + w * n) 4096 (4000 - w * n) page [] (end ∙ sym (append-nil (zeros_left w n))) (omega (arith, f.room));
     }
 
 -- in a page stand entries of one root, at one index, and one list of them

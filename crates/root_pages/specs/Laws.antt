@@ -14,11 +14,11 @@ abbrev pub SpellOneRoot : Type 0
 SpellOneRoot = (K : ℕ) (r q : RootFields) → K ≤ 4 → AreInRange K r → AreInRange K q → root_bytes r ≡ root_bytes q → r ≡ q
 
 -- one root, one index and one list of entries
-pub record IsOne (root other index place : ℕ) (entries more : List ℕ) : Type 0 where
+pub record IsOneList (root other index place : ℕ) (entries more : List ℕ) : Type 0 where
   pub root_is : root ≡ other
   pub index_is : index ≡ place
   pub entries_are : entries ≡ more
 
 -- no page spells two lists of entries, or one list for two roots or at two indices
 abbrev pub SpellsOneList : (ℕ → ℕ → List ℕ → List ℕ) → ℕ → ℕ → Type 0
-SpellsOneList spelling most bits = (root other index place : ℕ) (page entries more : List ℕ) → SpellsEntries spelling most bits root index page entries → SpellsEntries spelling most bits other place page more → IsOne root other index place entries more
+SpellsOneList spelling most bits = (root other index place : ℕ) (page entries more : List ℕ) → SpellsEntries spelling most bits root index page entries → SpellsEntries spelling most bits other place page more → IsOneList root other index place entries more

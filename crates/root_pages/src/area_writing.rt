@@ -1,5 +1,5 @@
 //! The bytes of the pages of a table area.
-ghost use Rattle.std.specs.Prelude.{◌≡◌, ◌≤◌, ◌<◌, ◌^◌, length, take, codes};
+ghost use Rattle.std.specs.Prelude.{◌≡◌, ◌≤◌, length, take};
 ghost use Rattle.page_fields.specs.Padded.{padded};
 ghost use Rattle.grid_model.specs.Spellings.{area_head, scale_page, list_page, bucket_table_page};
 ghost use Rattle.root_pages.specs.Areas.{entries_page, SpellsScale, SpellsList, SpellsTable};

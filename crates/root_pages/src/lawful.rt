@@ -1,5 +1,5 @@
 //! Whether what a header page says of a root is lawful.
-ghost use Rattle.std.specs.Prelude.{◌≡◌, ◌≤◌, ◌<◌, ◌^◌, ◌↔◌, ℕ, IsTrue, slice_index};
+ghost use Rattle.std.specs.Prelude.{◌≡◌, ◌≤◌, ◌<◌, ◌^◌, ◌↔◌, IsTrue};
 ghost use Rattle.grid_types.specs.Shapes.{is_shape};
 ghost use Rattle.grid_model.specs.Lawful.{cells_of_counts, IsRootOn};
 ghost use Rattle.root_pages.specs.Fields.{fields_of};

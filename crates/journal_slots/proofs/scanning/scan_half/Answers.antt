@@ -1,8 +1,9 @@
 use Rattle.std.proofs.Common.{◌≡◌, ◌+◌, ◌-◌, ℕ, List, length, take, drop, inr, refl, sym, ap, subst, ◌∙◌, arith}
 use Rattle.std.specs.Prelude.{Err, IsErrOf, Result}
 use Rattle.std.proofs.lemmas.Result.{IfErr-at_err}
+use Rattle.grid_model.specs.Images.{open_slots_of}
 use Rattle.journal_slots.specs.Gates.{gates_in}
-use Rattle.journal_slots.specs.Scans.{AreBatchesOn, IsFirstBadSlot, IsToKeep, open_slots_of}
+use Rattle.journal_slots.specs.Scans.{AreBatchesOn, IsFirstBadSlot, IsToKeep}
 use Rattle.journal_slots.proofs.OneScan.{one_scan, the_gates, gates_read}
 use Rattle.journal_slots.proofs.scanning.scan_half.Goals as goal
 
