@@ -49,6 +49,9 @@ fn lawful_fields<const K: usize>(
     decode_fields(page, shape, header)
 }
 
+/// The bytes of that page's shape that can change by 1 and be those of another shape.
+const OTHER_SHAPES: [usize; 8] = [10, 13, 18, 19, 22, 23, 26, 29];
+
 #[test]
 fn a_header_is_laid_out(rt: HostRuntime) -> Result<(), Fail> {
     spelling_law();
@@ -65,6 +68,7 @@ fn a_header_is_laid_out(rt: HostRuntime) -> Result<(), Fail> {
         let mut other = page;
         other[i] ^= 1;
         assert!(rt; decode_shape(&other) != Some(SHAPE));
+        assert_eq!(rt; decode_shape(&other).is_none(), !OTHER_SHAPES.contains(&i));
     }
     Ok(())
 }
@@ -127,7 +131,38 @@ fn unlawful_fields_are_refused(rt: HostRuntime) -> Result<(), Fail> {
     page[72] = 0x80;
     page[78] = 0;
     page[79] = 0;
-    assert!(rt; lawful_fields::<2>(&page, &SHAPE, 0).is_some());
+    let mut last = FIELDS;
+    last.number = 1 << 63;
+    assert!(rt; lawful_fields(&page, &SHAPE, 0) == Some(last));
+    Ok(())
+}
+
+/// The header page with that root, but for these bytes of its front.
+fn with_front(front: &[u8; 8]) -> [u8; 4096] {
+    let mut page = root_page();
+    page[88..96].copy_from_slice(front);
+    page
+}
+
+#[test]
+fn a_front_is_below_2_to_the_63(rt: HostRuntime) -> Result<(), Fail> {
+    let mut last = FIELDS;
+    last.front = (1 << 63) - 1;
+    let page = with_front(&[0x7f, 255, 255, 255, 255, 255, 255, 255]);
+    assert!(rt; lawful_fields(&page, &SHAPE, 0) == Some(last));
+    let page = with_front(&[0x80, 0, 0, 0, 0, 0, 0, 0]);
+    assert!(rt; lawful_fields::<2>(&page, &SHAPE, 0) == None);
+    Ok(())
+}
+
+#[test]
+fn a_directory_has_no_more_cells_than_the_shape(rt: HostRuntime) -> Result<(), Fail> {
+    let page = root_page();
+    let mut shape = SHAPE;
+    shape.cells = 4 * 501;
+    assert!(rt; lawful_fields(&page, &shape, 0) == Some(FIELDS));
+    shape.cells = 4 * 501 - 1;
+    assert!(rt; lawful_fields::<2>(&page, &shape, 0) == None);
     Ok(())
 }
 
