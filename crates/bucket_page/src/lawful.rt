@@ -40,6 +40,7 @@ fn ascends<const K: usize>(rows: &[Record<K>]) -> bool
     true
 }
 
+/// Whether the fields of the bucket are lawful, beside the ranges of their types.
 pub fn is_lawful<const K: usize>(bucket: &Bucket<K>) -> bool
     ensures { IsTrue result ↔ IsLawful bucket.now }
 {

@@ -5,6 +5,7 @@ ghost use Rattle.grid_model.specs.Spellings.{update_code, data_of, note_code, no
 
 use grid_types::{Key, NoteOf, Update};
 
+/// 1 for a put, and 2 for a remove.
 pub fn kind<const K: usize>(update: &Update<K>) -> u8
     ensures { result ≡ update_code update.now }
 {
@@ -14,6 +15,7 @@ pub fn kind<const K: usize>(update: &Update<K>) -> u8
     }
 }
 
+/// The key that the update changes.
 pub fn key<const K: usize>(update: &Update<K>) -> &Key<K>
     ensures { result.now.at ≡ key_of update.now }
 {
@@ -23,6 +25,7 @@ pub fn key<const K: usize>(update: &Update<K>) -> &Key<K>
     }
 }
 
+/// The data of a put; a remove has none.
 pub fn bytes<const K: usize>(update: &Update<K>) -> &[u8]
     ensures value { result.now ≡ data_of update.now }
     ensures short { length (data_of update.now) ≤ 40 }
@@ -33,6 +36,7 @@ pub fn bytes<const K: usize>(update: &Update<K>) -> &[u8]
     }
 }
 
+/// 0 for a plain note, 1 for a cut at an existing boundary, 2 for a cut at a fresh one, and 3 for a merge.
 pub fn code(note: &NoteOf) -> u8
     ensures { result ≡ note_code note.now }
 {
@@ -43,6 +47,7 @@ pub fn code(note: &NoteOf) -> u8
     }
 }
 
+/// The attribute of a cut, and 0 for other notes.
 pub fn attribute(note: &NoteOf) -> u8
     ensures { result ≡ note_attribute note.now }
 {
@@ -53,6 +58,7 @@ pub fn attribute(note: &NoteOf) -> u8
     }
 }
 
+/// The new bucket of a cut, the neighbour of a merge, and 0 for a plain note.
 pub fn bucket(note: &NoteOf) -> u32
     ensures { result ≡ note_bucket note.now }
 {
@@ -63,6 +69,7 @@ pub fn bucket(note: &NoteOf) -> u32
     }
 }
 
+/// The boundary of a cut, and 0 for other notes.
 pub fn boundary(note: &NoteOf) -> u64
     ensures { result ≡ note_boundary note.now }
 {

@@ -37,6 +37,7 @@ fn all_fit<const K: usize>(updates: &[Noted<K>]) -> bool
     true
 }
 
+/// Whether the fields of the batch are lawful, beside the ranges of their types.
 pub fn is_lawful<const K: usize>(batch: &Batch<K>) -> bool
     ensures { IsTrue result ↔ IsLawful (batch_of batch.now) }
 {

@@ -4,6 +4,7 @@ ghost use Rattle.page_fields.specs.Fields.{number, bytes_of, replaced};
 
 use byteorder::{BigEndian, ByteOrder};
 
+/// The number whose two bytes stand at an offset.
 pub fn get_u16(page: &[u8; 4096], at: usize) -> u16
     requires { at + 2 ≤ 4096 }
     ensures { result ≡ number 2 (drop at page.now) }
@@ -11,6 +12,7 @@ pub fn get_u16(page: &[u8; 4096], at: usize) -> u16
     BigEndian::read_u16(&page[at..])
 }
 
+/// The number whose four bytes stand at an offset.
 pub fn get_u32(page: &[u8; 4096], at: usize) -> u32
     requires { at + 4 ≤ 4096 }
     ensures { result ≡ number 4 (drop at page.now) }
@@ -18,6 +20,7 @@ pub fn get_u32(page: &[u8; 4096], at: usize) -> u32
     BigEndian::read_u32(&page[at..])
 }
 
+/// The number whose eight bytes stand at an offset.
 pub fn get_u64(page: &[u8; 4096], at: usize) -> u64
     requires { at + 8 ≤ 4096 }
     ensures { result ≡ number 8 (drop at page.now) }
@@ -25,6 +28,7 @@ pub fn get_u64(page: &[u8; 4096], at: usize) -> u64
     BigEndian::read_u64(&page[at..])
 }
 
+/// Writes a number into the two bytes at an offset.
 pub fn set_u16(page: &mut [u8; 4096], at: usize, v: u16)
     requires { at + 2 ≤ 4096 }
     ensures written { page.new ≡ replaced at (bytes_of 2 v) page.old }
@@ -33,6 +37,7 @@ pub fn set_u16(page: &mut [u8; 4096], at: usize, v: u16)
     BigEndian::write_u16(&mut page[at..at + 2], v);
 }
 
+/// Writes a number into the four bytes at an offset.
 pub fn set_u32(page: &mut [u8; 4096], at: usize, v: u32)
     requires { at + 4 ≤ 4096 }
     ensures written { page.new ≡ replaced at (bytes_of 4 v) page.old }
@@ -41,6 +46,7 @@ pub fn set_u32(page: &mut [u8; 4096], at: usize, v: u32)
     BigEndian::write_u32(&mut page[at..at + 4], v);
 }
 
+/// Writes a number into the eight bytes at an offset.
 pub fn set_u64(page: &mut [u8; 4096], at: usize, v: u64)
     requires { at + 8 ≤ 4096 }
     ensures written { page.new ≡ replaced at (bytes_of 8 v) page.old }

@@ -6,6 +6,7 @@ ghost use Rattle.page_fields.specs.Padded.{numbers, padded, words_of};
 
 use crate::{set_u32, set_u64};
 
+/// Writes these bytes at an offset.
 pub fn put_bytes(page: &mut [u8; 4096], at: usize, bytes: &[u8])
     requires { at + length bytes.now ≤ 4096 }
     ensures written { page.new ≡ replaced at bytes.now page.old }
