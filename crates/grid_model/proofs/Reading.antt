@@ -16,10 +16,12 @@ abbrev value-or : {X E : Type 0} → X → Result X E → X
 value-or d (Ok x) = x
 value-or d (Err e) = d
 
+-- the error, or e where there is none
 abbrev pub error-or : {X E : Type 0} → E → Result X E → E
-error-or d (Ok x) = d
-error-or d (Err e) = e
+error-or e (Ok x) = e
+error-or e (Err f) = f
 
+-- what is Ok is no Err
 pub ok-is-no-err : {X E : Type 0} (x : X) (e : E) → Ok x ≡ Err e → ⊥
 ok-is-no-err {X = X} {E = E} x e p = true≢false (ap (is-ok {X = X} {E = E}) p)
 

@@ -127,6 +127,7 @@ by-tests v b bs t u p q i = cond (p i) (b ∷ filter (λ b. nat_lt b v) bs) (fil
 stands-there : (v : ℕ) (bs : List ℕ) → ascends_from (v + 1) bs ≡ true → refined (v ∷ bs) v ≡ v ∷ bs
 stands-there v bs e = by-tests v v bs false false (le-ltb v v (omega arith)) (le-ltb v v (omega arith)) ∙ stands-first (v + 1) v bs e (omega arith)
 
+-- a new boundary above the first one stands behind it
 pub stands-later : (v b : ℕ) (bs : List ℕ) → b < v → refined (b ∷ bs) v ≡ b ∷ refined bs v
 stands-later v b bs p = by-tests v b bs true false (lt-ltb b v p) (le-ltb v b (omega (arith, p)))
 
