@@ -68,7 +68,7 @@ fn cleared(alloc: Global, layout: &Layout, calls: u64, keep: Keep) -> Result<Out
     Ok(Outcome { answered, found })
 }
 
-/// How many batches a publication leaves: a page and its sync, and a gate that may be kept before its sync.
+/// How many batches are found behind so many calls of a publication: the page and its sync, the gate and its sync.
 fn left_by_publishing(calls: u64, keep: Keep) -> usize {
     match calls {
         0..=2 => 0,
@@ -77,7 +77,7 @@ fn left_by_publishing(calls: u64, keep: Keep) -> usize {
     }
 }
 
-/// How many batches a clearing leaves: gates that may be kept before their sync.
+/// How many of two batches are found behind so many calls of a clearing: the gates and their sync.
 fn left_by_clearing(calls: u64, keep: Keep) -> usize {
     match calls {
         0 => 2,

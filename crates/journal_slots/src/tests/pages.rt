@@ -94,7 +94,7 @@ fn a_batch_has_1_to_16_updates(rt: HostRuntime) -> Result<(), Fail> {
     Ok(())
 }
 
-/// What makes the bytes of that page unlawful: a byte, and its value.
+/// What makes the page of the batch with an update of each kind unlawful: a byte, and its value.
 const UNLAWFUL: [(usize, u8); 23] = [
     // the kind of the page, how many updates, and what is behind the head
     (3, 0x32),
