@@ -17,3 +17,4 @@ pub mod Newest
 pub mod Cutting
 pub mod Unique
 pub mod Writing
+pub mod Filling

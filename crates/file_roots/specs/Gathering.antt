@@ -1,10 +1,11 @@
 -- What is gathered from the pages of a table area, one after the other.
-use Rattle.std.specs.Prelude.{◌≡◌, ◌<◌, ◌+◌, ◌*◌, ◌++◌, ℕ, Bool, false, cond, List, length, replicate, drop, slice_index, slice_index_or}
+use Rattle.std.specs.Prelude.{◌≡◌, ◌<◌, ◌≤◌, ◌+◌, ◌*◌, ◌++◌, ℕ, Bool, false, cond, List, length, replicate, drop, slice_index, slice_index_or}
 use Rattle.page_fields.specs.Fields.{number}
 use Rattle.grid_model.specs.Lists.{is_among, AreDistinct}
 use Rattle.grid_model.specs.Scales.{scale_of}
 use Rattle.grid_model.specs.Lawful.{Area, pages_named}
 use Rattle.grid_types.specs.declared.shape.Shape.{Shape}
+use Rattle.grid_types.specs.Shapes.{file_pages}
 use Rattle.grid_model.specs.Spellings.{RootFields}
 use Rattle.linear_scales.specs.Limited.{scales_of, limits_of}
 use Rattle.file_roots.specs.declared.gathering.Gathered.{Gathered}
@@ -50,3 +51,9 @@ pub record HasRoom {K : ℕ} (s : Shape) (g : Gathered K) : Type 0 where
 pub record HasGathered {K : ℕ} (s : Shape) (image : List ℕ) (r : RootFields) (n : ℕ) (g : Gathered K) : Type 0 where
   pub area : HasAreaUpTo s image r n (area_in g)
   pub marked : AreMarked g.marks.items (pages_in (area_in g))
+
+-- this may have been gathered from the first n pages of a root's table area: some file of the shape has such pages
+pub record MayBeGathered {K : ℕ} (s : Shape) (r : RootFields) (n : ℕ) (g : Gathered K) : Type 0 where
+  pub image : List ℕ
+  pub long : file_pages s * 4096 ≤ length image
+  pub gathered : HasGathered s image r n g

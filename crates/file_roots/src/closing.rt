@@ -52,7 +52,8 @@ pub fn close_root<D: Disk, L: Ledger>(
     ensures read_fault { IsErrOf result ReadFault → Rose (D.read_count disk.old) (D.read_count disk.new) }
     ensures write_fault { IsErrOf result WriteFault → Rose (D.write_count disk.old) (D.write_count disk.new) }
     ensures no_other { IfErr result (λ e. (e ≡ ReadFault) ⊎ (e ≡ WriteFault)) }
-    ensures counts { (D.read_count disk.old ≤ D.read_count disk.new) × (D.write_count disk.old ≤ D.write_count disk.new) }
+    ensures reads { D.read_count disk.old ≤ D.read_count disk.new }
+    ensures writes { D.write_count disk.old ≤ D.write_count disk.new }
     ensures ticks { steps.new ≡ steps.old + 1 }
 {
     let header = number % 2;

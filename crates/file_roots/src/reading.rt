@@ -9,10 +9,10 @@ ghost use Rattle.root_pages.specs.Fields as pages;
 ghost use Rattle.linear_scales.specs.Limited.{limits_of};
 ghost use Rattle.disk_trait.specs.Causes.{Rose};
 ghost use Rattle.disk_trait.specs.Moments.{LeavesOnly};
-ghost use Rattle.file_roots.specs.Roots.{fields_of, area_of};
+ghost use Rattle.file_roots.specs.Roots.{fields_of, area_of, IsRoot};
 ghost use Rattle.file_roots.specs.Replacing.{IsWhole};
 ghost use Rattle.file_roots.specs.Damage.{HasBadPart, IsRootDamage};
-ghost use Rattle.file_roots.specs.Gathering.{HasGathered, HasRoom};
+ghost use Rattle.file_roots.specs.Gathering.{HasGathered, MayBeGathered, HasRoom};
 
 use crate::Root;
 use crate::choosing::choose;
@@ -43,8 +43,10 @@ fn read_fields<D: Disk, L: Ledger, const K: usize>(
     ensures moments { IsTrue (D.honest disk.old) → LeavesOnly D.moment D.left_since disk.old disk.new (D.may_leave disk.old) }
     ensures extent { D.extent disk.new ≡ D.extent disk.old }
     ensures honest { D.honest disk.new ≡ D.honest disk.old }
-    ensures counts { (D.read_count disk.old ≤ D.read_count disk.new) × (D.write_count disk.old ≤ D.write_count disk.new) }
+    ensures reads { D.read_count disk.old ≤ D.read_count disk.new }
+    ensures writes { D.write_count disk.old ≤ D.write_count disk.new }
     ensures ticks { steps.new ≤ steps.old + 2 }
+    ensures all_ticks { OnOk result (steps.new ≡ steps.old + 2) }
 {
     let mut zeroth = [0; 4096];
     match disk.read(0, &mut zeroth, steps) {
@@ -76,6 +78,7 @@ fn read_part<D: Disk, L: Ledger, const K: usize>(
     requires size { file_pages layout.now.shape * 4096 ≤ D.extent disk.old }
     ensures gathered { IsTrue (D.honest disk.old) → HasGathered layout.now.shape (D.seen disk.old) (pages.fields_of fields.now) i gathered.old
         → OnOk result (HasGathered layout.now.shape (D.seen disk.old) (pages.fields_of fields.now) (i + 1) gathered.new) }
+    ensures lawful { MayBeGathered layout.now.shape (pages.fields_of fields.now) i gathered.old → OnOk result (MayBeGathered layout.now.shape (pages.fields_of fields.now) (i + 1) gathered.new) }
     ensures damaged { IsTrue (D.honest disk.old) → HasGathered layout.now.shape (D.seen disk.old) (pages.fields_of fields.now) i gathered.old
         → (p : ℕ) → IsErrOf result (Damaged p) → HasBadPart layout.now.shape (D.seen disk.old) (pages.fields_of fields.now) p }
     ensures room { HasRoom layout.now.shape gathered.new }
@@ -86,7 +89,8 @@ fn read_part<D: Disk, L: Ledger, const K: usize>(
     ensures moments { IsTrue (D.honest disk.old) → LeavesOnly D.moment D.left_since disk.old disk.new (D.may_leave disk.old) }
     ensures extent { D.extent disk.new ≡ D.extent disk.old }
     ensures honest { D.honest disk.new ≡ D.honest disk.old }
-    ensures counts { (D.read_count disk.old ≤ D.read_count disk.new) × (D.write_count disk.old ≤ D.write_count disk.new) }
+    ensures reads { D.read_count disk.old ≤ D.read_count disk.new }
+    ensures writes { D.write_count disk.old ≤ D.write_count disk.new }
     ensures ticks { steps.new ≡ steps.old + 1 }
 {
     let number = layout.table_page((fields.number % 2) as u8, i);
@@ -117,6 +121,7 @@ fn read_area<D: Disk, L: Ledger, const K: usize>(
     requires size { file_pages layout.now.shape * 4096 ≤ D.extent disk.old }
     ensures gathered { IsTrue (D.honest disk.old) → HasGathered layout.now.shape (D.seen disk.old) (pages.fields_of fields.now) 0 gathered.old
         → OnOk result (HasGathered layout.now.shape (D.seen disk.old) (pages.fields_of fields.now) (area_pages layout.now.shape) gathered.new) }
+    ensures lawful { MayBeGathered layout.now.shape (pages.fields_of fields.now) 0 gathered.old → OnOk result (MayBeGathered layout.now.shape (pages.fields_of fields.now) (area_pages layout.now.shape) gathered.new) }
     ensures damaged { IsTrue (D.honest disk.old) → HasGathered layout.now.shape (D.seen disk.old) (pages.fields_of fields.now) 0 gathered.old
         → (p : ℕ) → IsErrOf result (Damaged p) → HasBadPart layout.now.shape (D.seen disk.old) (pages.fields_of fields.now) p }
     ensures room { HasRoom layout.now.shape gathered.new }
@@ -127,8 +132,10 @@ fn read_area<D: Disk, L: Ledger, const K: usize>(
     ensures moments { IsTrue (D.honest disk.old) → LeavesOnly D.moment D.left_since disk.old disk.new (D.may_leave disk.old) }
     ensures extent { D.extent disk.new ≡ D.extent disk.old }
     ensures honest { D.honest disk.new ≡ D.honest disk.old }
-    ensures counts { (D.read_count disk.old ≤ D.read_count disk.new) × (D.write_count disk.old ≤ D.write_count disk.new) }
+    ensures reads { D.read_count disk.old ≤ D.read_count disk.new }
+    ensures writes { D.write_count disk.old ≤ D.write_count disk.new }
     ensures ticks { steps.new ≤ steps.old + area_pages layout.now.shape }
+    ensures all_ticks { OnOk result (steps.new ≡ steps.old + area_pages layout.now.shape) }
 {
     for i in 0..layout.area_pages() {
         match read_part(disk, layout, fields, gathered, i, steps) {
@@ -154,8 +161,10 @@ pub fn read_newest<D: Disk, L: Ledger, const K: usize>(
     ensures found { IsTrue (D.honest disk.old) → IfOk result (λ r. IsWhole layout.now.shape (fields_of r) (area_of r) (D.seen disk.old)) }
     ensures only { IsTrue (D.honest disk.old) → (r : model.RootFields) (a : Area) → IsNewest layout.now.shape (D.seen disk.old) r → HasArea layout.now.shape (D.seen disk.old) r a → IfOk result (λ root. (fields_of root ≡ r) × (area_of root ≡ a)) }
     ensures undamaged { IsTrue (D.honest disk.old) → (r : model.RootFields) (a : Area) → IsNewest layout.now.shape (D.seen disk.old) r → HasArea layout.now.shape (D.seen disk.old) r a → (p : ℕ) → IsErrOf result (Damaged p) → ⊥ }
+    ensures lawful { IfOk result (λ r. IsRoot layout.now.shape r) }
     ensures limits { IfOk result (λ r. limits_of r.scales ≡ replicate K layout.now.shape.boundaries) }
     ensures damaged { IsTrue (D.honest disk.old) → (p : ℕ) → IsErrOf result (Damaged p) → IsRootDamage layout.now.shape (D.seen disk.old) p }
+    ensures no_memory { IsTrue (D.honest disk.old) → IsErrOf result NoMemory → (r : model.RootFields) × IsNewest layout.now.shape (D.seen disk.old) r }
     ensures read_fault { IsErrOf result ReadFault → Rose (D.read_count disk.old) (D.read_count disk.new) }
     ensures no_other { IfErr result (λ e. (e ≡ NoMemory) ⊎ ((e ≡ ReadFault) ⊎ ((p : ℕ) × (e ≡ Damaged p)))) }
     ensures seen { IsTrue (D.honest disk.old) → D.seen disk.new ≡ D.seen disk.old }
@@ -163,8 +172,10 @@ pub fn read_newest<D: Disk, L: Ledger, const K: usize>(
     ensures moments { IsTrue (D.honest disk.old) → LeavesOnly D.moment D.left_since disk.old disk.new (D.may_leave disk.old) }
     ensures extent { D.extent disk.new ≡ D.extent disk.old }
     ensures honest { D.honest disk.new ≡ D.honest disk.old }
-    ensures counts { (D.read_count disk.old ≤ D.read_count disk.new) × (D.write_count disk.old ≤ D.write_count disk.new) }
+    ensures reads { D.read_count disk.old ≤ D.read_count disk.new }
+    ensures writes { D.write_count disk.old ≤ D.write_count disk.new }
     ensures ticks { steps.new ≤ steps.old + (2 + area_pages layout.now.shape) }
+    ensures all_ticks { OnOk result (steps.new ≡ steps.old + (2 + area_pages layout.now.shape)) }
 {
     let fields = match read_fields::<_, _, K>(disk, layout, steps) {
         Ok(fields) => fields,

@@ -1,13 +1,14 @@
 use Rattle.std.proofs.Common.{◌≡◌, ◌≤◌, ◌+◌, ◌↔◌, ℕ, List, IsTrue}
 use Rattle.disk_trait.specs.Moments.{LeavesOnly}
 use Rattle.root_pages.specs.Fields as pages
-use Rattle.file_roots.specs.Gathering.{HasGathered, HasRoom}
+use Rattle.file_roots.specs.Gathering.{HasGathered, MayBeGathered, HasRoom}
 use Rattle.file_roots.proofs.reading.read_area.Given as goal
 
 abbrev pub invariant-loop-i : goal.invariant-loop-i
 invariant-loop-i g l = record {
   gathered : IsTrue (g.D.Disk.honest l.initial.disk) → HasGathered l.layout.shape (g.D.Disk.seen l.initial.disk) (pages.fields_of l.fields) 0 l.initial.gathered
       → HasGathered l.layout.shape (g.D.Disk.seen l.initial.disk) (pages.fields_of l.fields) l.i l.gathered;
+  lawful : MayBeGathered l.layout.shape (pages.fields_of l.fields) 0 l.initial.gathered → MayBeGathered l.layout.shape (pages.fields_of l.fields) l.i l.gathered;
   room : HasRoom l.layout.shape l.gathered;
   seen : IsTrue (g.D.Disk.honest l.initial.disk) → g.D.Disk.seen l.disk ≡ g.D.Disk.seen l.initial.disk;
   crash : IsTrue (g.D.Disk.honest l.initial.disk) → (c : List ℕ) → g.D.Disk.may_leave l.disk c ↔ g.D.Disk.may_leave l.initial.disk c;

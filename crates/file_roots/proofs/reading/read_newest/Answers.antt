@@ -1,13 +1,14 @@
-use Rattle.std.proofs.Common.{◌∙◌, inr, rules, subst}
+use Rattle.std.proofs.Common.{◌*◌, ◌∙◌, inr, replicate, rules, subst}
 use Rattle.grid_types.specs.declared.refusal.Refusal.TheVariants.{Damaged}
-use Rattle.grid_types.specs.Shapes.{area_pages}
+use Rattle.grid_types.specs.Shapes.{area_pages, file_pages}
 use Rattle.root_pages.specs.Fields as pages
 use Rattle.linear_scales.specs.Limited.{scales_of}
 use Rattle.file_roots.specs.Damage.{HasBadPart}
-use Rattle.file_roots.specs.Gathering.{HasGathered, area_in}
+use Rattle.file_roots.specs.Gathering.{HasGathered, MayBeGathered, area_in}
 use Rattle.file_roots.proofs.Whole.{whole}
 use Rattle.file_roots.proofs.Unique.{undamaged, only_whole}
 use Rattle.file_roots.proofs.Verdicts.{passed_on, fields_same, whole_root}
+use Rattle.file_roots.proofs.Filling.{zeros_long, area_lawful, same_root}
 use Rattle.file_roots.proofs.reading.read_newest.Goals as goal
 
 pub read_fields-requires : goal.read_fields-requires
@@ -45,3 +46,13 @@ returns-in-Err-read_area-clause-undamaged g c = λ h r a newest area p e. undama
 
 pub returns-clause-only : goal.returns-clause-only
 returns-clause-only g c = λ h r a newest area. only_whole c.args.layout.now.shape (g.D.Disk.seen c.args.disk.now) r _ a _ c.requires.lawful newest area (returns-clause-found g c h)
+
+pub returns-clause-lawful : goal.returns-clause-lawful
+returns-clause-lawful g c =
+    let s = c.args.layout.now.shape in
+    let r = pages.fields_of c.in-Ok.fields in
+    let gathered = c.read_area.new.gathered in
+    let begun : MayBeGathered s r 0 c.in-Ok-new.gathered = record { image = replicate (file_pages s * 4096) 0; long = zeros_long s; gathered = c.in-Ok-new.ensures.empty (replicate (file_pages s * 4096) 0) r c.in-Ok.ensures.lawful } in
+    let area = area_lawful s r gathered c.requires.lawful c.in-Ok.ensures.lawful (c.in-Ok-read_area.ensures.lawful begun) in
+    let is = same_root s r _ (area_in gathered) (fields_same r (scales_of gathered.scales) gathered.parts gathered.table area.boundaries area.parts area.buckets) c.in-Ok.ensures.lawful area in
+    record { fields = is.0; area = is.1 }
