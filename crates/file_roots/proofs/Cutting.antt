@@ -90,9 +90,10 @@ module _ (s : Shape) (image : List ℕ) (r : RootFields) (lawful : IsTrue (is_sh
         ]);
       }
 
--- where all pages are spelled, no page is the first that is not
-pub none_bad : (s : Shape) (image : List ℕ) (r : RootFields) (a : Area) → IsTrue (is_shape s) → IsRootOn s (header_page r.number) r → HasAreaUpTo s image r (area_pages s) a → (n : ℕ) → n < area_pages s → (more : Area) × HasAreaUpTo s image r (n + 1) more
-none_bad s image r a lawful root all n lt = elim (cases_eq (n + 1) (area_pages s)) [
+-- where the first m pages are spelled, none of them is the first that is not
+pub none_bad : (s : Shape) (image : List ℕ) (r : RootFields) (a : Area) → IsTrue (is_shape s) → IsRootOn s (header_page r.number) r → (m : ℕ) → m ≤ area_pages s → HasAreaUpTo s image r m a
+    → (n : ℕ) → n < m → (more : Area) × HasAreaUpTo s image r (n + 1) more
+none_bad s image r a lawful root m most all n lt = elim (cases_eq (n + 1) m) [
   | inl last ↦ (a, subst (λ (k : ℕ). HasAreaUpTo s image r k a) (sym last) all)
-  | inr other ↦ (cut (n + 1) a, record { spelled = spelled_less s image r lawful root (area_pages s) a all.spelled (n + 1) (omega (arith, lt)); buckets = λ le. absurd (omega (arith, le, lt, other)) })
+  | inr other ↦ (cut (n + 1) a, record { spelled = spelled_less s image r lawful root m a all.spelled (n + 1) (omega (arith, lt)); buckets = λ le. absurd (omega (arith, le, lt, most, other)) })
 ]

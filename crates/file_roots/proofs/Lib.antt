@@ -16,5 +16,6 @@ pub mod Beginning
 pub mod Newest
 pub mod Cutting
 pub mod Unique
+pub mod Naming
 pub mod Writing
 pub mod Filling

@@ -13,7 +13,7 @@ use Rattle.grid_model.specs.Lawful.{IsRootOn, Area}
 use Rattle.grid_model.specs.Images.{header_gate, IsOpenOver, IsNewest, HasArea}
 use Rattle.root_pages.proofs.RootPlaces.{number_there, fields_there, on_header}
 use Rattle.root_pages.proofs.Roots.{few_attributes, in_range, root_again}
-use Rattle.file_roots.specs.Damage.{SpellsUpTo, HasBadPart, IsRootDamage}
+use Rattle.file_roots.specs.Damage.{SpellsUpTo, AreAlike, IsFirstMisspelt, HasBadPart, IsRootDamage}
 use Rattle.file_roots.specs.Replacing.{IsWhole}
 use Rattle.file_roots.proofs.Pieces.{piece_last}
 use Rattle.file_roots.proofs.Spelled.{few, scale_there, list_there, one_scale, one_list}
@@ -99,26 +99,32 @@ module _ (s : Shape) (image : List ℕ) (lawful : IsTrue (is_shape s)) where
         let page = page_of header image in
         (number_there 72 page q (drop 128 page) (on_header page q opens.spelled) (omega (arith, opens.lawful.number)), opens.lawful.parity)
 
-    one_open_at_least : header_gate image 0 ≢ 1 → header_gate image 1 ≢ 1 → ⊥
+    pub one_open_at_least : header_gate image 0 ≢ 1 → header_gate image 1 ≢ 1 → ⊥
     one_open_at_least zeroth first = elim (one-of-two (header_page r.number) (omega arith)) [
       | inl is ↦ zeroth (ap (header_gate image) (sym is) ∙ newest.opens.gate)
       | inr is ↦ first (ap (header_gate image) (sym is) ∙ newest.opens.gate)
     ]
 
-    -- the roots of an image with a newest root and its table area are not damaged
-    pub undamaged : (a : Area) → HasArea s image r a → (p : ℕ) → IsRootDamage s image p → ⊥
-    undamaged a area p (inl none) = one_open_at_least none.zeroth none.first
-    undamaged a area p (inr (inl alike)) =
+    pub none_alike : (p : ℕ) → AreAlike image p → ⊥
+    none_alike p alike =
         let z = over 0 (omega arith) alike.zeroth in
         let f = over 1 (omega arith) alike.first in
         let x = stands 0 z.0 z.1 in
         let y = stands 1 f.0 f.1 in
         absurd (omega (arith, x.0, y.0, x.1, y.1, alike.numbers))
-    undamaged a area p (inr (inr (inl bad))) = let o = over p bad.two bad.misspelt.gate in bad.misspelt.none o.0 o.1
+
+    pub none_misspelt : (p : ℕ) → IsFirstMisspelt s image p → ⊥
+    none_misspelt p bad = let o = over p bad.two bad.misspelt.gate in bad.misspelt.none o.0 o.1
+
+    -- the roots of an image with a newest root and its table area are not damaged
+    pub undamaged : (a : Area) → HasArea s image r a → (p : ℕ) → IsRootDamage s image p → ⊥
+    undamaged a area p (inl none) = one_open_at_least none.zeroth none.first
+    undamaged a area p (inr (inl alike)) = none_alike p alike
+    undamaged a area p (inr (inr (inl bad))) = none_misspelt p bad
     undamaged a area p (inr (inr (inr found))) =
         let same : found.0 ≡ r = one_newest found.0 r found.1 newest in
         let bad : HasBadPart s image r p = subst (λ q. HasBadPart s image q p) same found.2 in
-        let more = none_bad s image r a lawful newest.opens.lawful (by_pages s image r a lawful newest.opens.lawful area) bad.part bad.bad.inside in
+        let more = none_bad s image r a lawful newest.opens.lawful (area_pages s) (omega arith) (by_pages s image r a lawful newest.opens.lawful area) bad.part bad.bad.inside in
         bad.bad.no_more more.0 more.1
 
 -- what is whole is the newest root and its table area

@@ -75,3 +75,7 @@ IsRootDamage s image page = IsNoneOpen image page ⊎ (AreAlike image page ⊎ (
 -- all pages of a table area are spelled exactly where the area is
 abbrev pub AreAllSpelled : Type 0
 AreAllSpelled = (s : Shape) (image : List ℕ) (r : RootFields) (a : Area) → IsTrue (is_shape s) → IsRootOn s (header_page r.number) r → HasAreaUpTo s image r (area_pages s) a ↔ HasArea s image r a
+
+-- one page is named where the roots of a file are damaged
+abbrev pub OneIsDamaged : Type 0
+OneIsDamaged = (s : Shape) (image : List ℕ) (p q : ℕ) → IsTrue (is_shape s) → IsRootDamage s image p → IsRootDamage s image q → p ≡ q
