@@ -1,94 +1,194 @@
--- What an image shows of its roots while one of them is closed and written anew.
-use Rattle.std.proofs.Common.{◌≡◌, ◌≢◌, ◌<◌, ◌≤◌, ◌⊎◌, inl, inr, ◌+◌, ◌*◌, ℕ, List, IsTrue, sym, ap, subst, ◌∙◌, arith}
+-- What an image shows of its roots while one of them is closed and written anew, also after attempts that failed.
+use Rattle.std.proofs.Common.{◌≡◌, ◌≢◌, ◌<◌, ◌≤◌, ◌⊎◌, inl, inr, ◌+◌, ◌*◌, ℕ, List, [], ◌∷◌, IsTrue, sym, ap, subst, ◌∙◌, arith}
+use Rattle.std.specs.Prelude.{Option, Some, None, Result, Ok, Err, OnErr}
 use Rattle.std.proofs.lemmas.Bool.{cases_eq}
 use Rattle.grid_types.specs.declared.shape.Shape.{Shape}
-use Rattle.grid_types.specs.Shapes.{is_shape, header_page, header_gate_at, table_page}
-use Rattle.grid_types.proofs.Places.{table-page-lies}
+use Rattle.grid_types.specs.Shapes.{is_shape, header_page, header_gate_at}
+use Rattle.grid_types.proofs.Places.{one-of-two}
 use Rattle.grid_model.specs.Spellings.{RootFields}
-use Rattle.grid_model.specs.Lawful.{Area}
 use Rattle.grid_model.specs.Images.{header_gate, IsOpenOver}
 use Rattle.disk_trait.specs.Disk.{Agrees, Only}
 use Rattle.disk_trait.specs.Moments.{After, Always, AgreesOutside, LeavesOnly}
 use Rattle.disk_trait.proofs.Moments.{weakened}
 use Rattle.disk_trait.proofs.Ranges.{outside_one, outside_more, outside_then}
-use Rattle.file_roots.specs.Replacing.{IsWhole, IsWholeBeside, ComesAfter, IsOtherOlder, IsReady, Within, area_range, header_ranges, root_ranges}
-use Rattle.file_roots.proofs.Headers.{header_two, gate_stays, fields_stay, open_apart, area_apart}
-use Rattle.file_roots.proofs.Stages.{other_header, still_newest, old_open, old_area_stays}
+use Rattle.file_roots.specs.Roots.{WholeRoot}
+use Rattle.file_roots.specs.Replacing.{IsWhole, ShowsOld, IsOneOf, ComesNext, IsOtherOlder, KeepsOld, IsReady, HasFields, HasOlder, HasTried, HasOneTried, IsReplaceable, NextMayBeWritten, OldOrTriedIsNewest, KeptIsOlder, Within, area_range, header_ranges, root_ranges}
+use Rattle.file_roots.proofs.Headers.{header_two, fields_stay, area_above}
+use Rattle.file_roots.proofs.Stages.{other_header, next_header, kept_beside}
 
--- both header pages lie before a table area
-pub areas_high : (s : Shape) (area : ℕ) → IsTrue (is_shape s) → area < 2 → 8192 ≤ table_page s area 0 * 4096
-areas_high s area lawful two = let p = table-page-lies s area 0 lawful two (omega arith) in omega (arith, p.first)
+module _ (s : Shape) where
+  -- fields under an open gate
+  opened : (header : ℕ) (r : RootFields) (c : List ℕ) → header_gate c header ≡ 1 → HasFields s header r c → IsOpenOver s c header r
+  opened header r c gate has = record { gate = gate; spelled = has.spelled; lawful = has.lawful }
 
--- the other header page than a root's stays closed or older where a table area changes
-pub other_above : (s : Shape) (number area : ℕ) (c d : List ℕ) → IsTrue (is_shape s) → area < 2 → Within (area_range s area) c d → IsOtherOlder s number c → IsOtherOlder s number d
-other_above s number area c d lawful two a other =
-    let high = areas_high s area lawful two in
-    let h = header_page (number + 1) in
-    elim other [
-      | inl shut ↦ inl (λ is. shut (sym (gate_stays _ _ h c d (inl (omega (arith, high, header_two (number + 1)))) a) ∙ is))
-      | inr older ↦ inr (older.0, open_apart s _ _ h older.0 c d (inl (omega (arith, high, header_two (number + 1)))) a older.1, older.2)
+  -- where the old root is kept, the other header page than the next root's is older
+  pub kept_is_older : (number : ℕ) (old : Option WholeRoot) (c : List ℕ) → ComesNext old number → KeepsOld s number old c → IsOtherOlder s number c
+  kept_is_older number None c comes shut = inl shut
+  kept_is_older number (Some old) c comes stands = inr (old.fields, subst (λ h. IsOpenOver s c h old.fields) (sym (other_header number old.fields.number (λ e. comes.apart (sym e)))) stands.opens, comes.later)
+
+  -- the same beside another root of the same header page
+  kept_beside_other : (number other : ℕ) (old : Option WholeRoot) (c : List ℕ) → header_page other ≡ header_page number → KeepsOld s number old c → KeepsOld s other old c
+  kept_beside_other number other None c same shut = let next : header_page (other + 1) ≡ header_page (number + 1) = grind (arith, same) in λ is. shut (ap (header_gate c) (sym next) ∙ is)
+  kept_beside_other number other (Some old) c same stands = stands
+
+  -- where the next root's header page is closed, the old root is the newest
+  pub shows_old : (number : ℕ) (old : Option WholeRoot) (c : List ℕ) → ComesNext old number → IsReady s number old c → ShowsOld s old c
+  shows_old number None c comes ready = elim (one-of-two (header_page number) (header_two number)) [
+    | inl is ↦
+        let next : header_page (number + 1) ≡ 1 = omega (arith, is) in
+        record { zeroth = λ e. ready.closed (ap (header_gate c) is ∙ e); first = λ e. ready.keeps (ap (header_gate c) next ∙ e) }
+    | inr is ↦
+        let next : header_page (number + 1) ≡ 0 = omega (arith, is) in
+        record { zeroth = λ e. ready.keeps (ap (header_gate c) next ∙ e); first = λ e. ready.closed (ap (header_gate c) is ∙ e) }
+  ]
+  shows_old number (Some old) c comes ready = record {
+    newest = record { opens = ready.keeps.opens; other = inl (λ is. ready.closed (ap (header_gate c) (sym (other_header old.fields.number number comes.apart)) ∙ is)) };
+    area = ready.keeps.area;
+  }
+
+  -- so it is where that header page is open over an older one
+  shows_above : (number : ℕ) (old : Option WholeRoot) (c : List ℕ) → ComesNext old number → KeepsOld s number old c → header_gate c (header_page number) ≡ 1 → HasOlder s (header_page number) old c → ShowsOld s old c
+  shows_above number None c comes keeps gate older = absurd older
+  shows_above number (Some old) c comes keeps gate older = record {
+    newest = record {
+      opens = keeps.opens;
+      other = inr (older.0, subst (λ h. IsOpenOver s c h older.0) (sym (other_header old.fields.number number comes.apart)) (opened (header_page number) older.0 c gate older.1), older.2);
+    };
+    area = keeps.area;
+  }
+
+  -- a root that was tried is the newest under its open gate
+  shows_tried : (number : ℕ) (old : Option WholeRoot) (w : WholeRoot) (c : List ℕ) → KeepsOld s number old c → header_gate c (header_page number) ≡ 1 → HasTried s (header_page number) old w c → IsWhole s w.fields w.area c
+  shows_tried number old w c keeps gate has =
+      let own : header_page w.fields.number ≡ header_page number = has.fields.lawful.parity in
+      record {
+        newest = record {
+          opens = subst (λ h. IsOpenOver s c h w.fields) (sym own) (opened (header_page number) w.fields c gate has.fields);
+          other = kept_is_older w.fields.number old c has.next (kept_beside_other number w.fields.number old c own keeps);
+        };
+        area = has.area;
+      }
+
+  -- the old root is one of any
+  pub old_is_one : (old : Option WholeRoot) (others : List WholeRoot) (c : List ℕ) → ShowsOld s old c → IsOneOf s old others c
+  old_is_one old [] c shows = shows
+  old_is_one old (w ∷ ws) c shows = inr (old_is_one old ws c shows)
+
+  tried_is_one : (number : ℕ) (old : Option WholeRoot) (tried : List WholeRoot) (c : List ℕ) → KeepsOld s number old c → header_gate c (header_page number) ≡ 1 → HasOneTried s (header_page number) old tried c → IsOneOf s old tried c
+  tried_is_one number old [] c keeps gate has = absurd has
+  tried_is_one number old (w ∷ ws) c keeps gate (inl is) = inl (shows_tried number old w c keeps gate is)
+  tried_is_one number old (w ∷ ws) c keeps gate (inr more) = inr (tried_is_one number old ws c keeps gate more)
+
+  -- where a root may be written, the old one or one that was tried is the newest
+  pub shown : (number gate : ℕ) (old : Option WholeRoot) (tried : List WholeRoot) (c : List ℕ) → ComesNext old number → IsReplaceable s number gate old tried c → IsOneOf s old tried c
+  shown number gate old tried c comes is = elim (cases_eq (header_gate c (header_page number)) 1) [
+    | inr shut ↦ old_is_one old tried c (shows_old number old c comes (record { keeps = is.keeps; closed = shut }))
+    | inl open_now ↦ elim is.under [
+      | inl closed ↦ absurd (closed.1 open_now)
+      | inr has ↦ elim has [
+        | inl older ↦ old_is_one old tried c (shows_above number old c comes is.keeps open_now older)
+        | inr one ↦ tried_is_one number old tried c is.keeps open_now one
+      ]
     ]
+  ]
 
-module _ (s : Shape) (new : RootFields) (old : RootFields) (old_area : Area) (lawful : IsTrue (is_shape s)) (comes : ComesAfter old new.number) where
-  -- while an open gate over an older root is closed, the old root stays the newest
-  pub while_closing : (before : List ℕ → Type 0) (gate : ℕ) → Always before (IsWholeBeside s (header_page new.number) gate old old_area) → gate ≡ 1
-      → (c : List ℕ) → After (Agrees (header_gate_at (header_page new.number)) 1) before c → IsWhole s old old_area c
-  while_closing before gate whole one c from =
-      let h = header_page new.number in
-      let was = whole from.0 from.1 in
-      let next : header_page (old.number + 1) ≡ h = other_header old.number new.number comes.apart in
-      let other : (header_gate c (header_page (old.number + 1)) ≢ 1) ⊎ ((older : RootFields) × IsOpenOver s c (header_page (old.number + 1)) older × (older.number < old.number))
-      = elim was.whole.newest.other [
-        | inl shut ↦ absurd (shut (ap (header_gate from.0) next ∙ was.gate_is ∙ one))
-        | inr older ↦ elim (cases_eq (header_gate c h) 1) [
-          | inl is ↦
-              let opens : IsOpenOver s from.0 h older.0 = subst (λ p. IsOpenOver s from.0 p older.0) next older.1 in
-              let now : IsOpenOver s c h older.0 = record { gate = is; spelled = fields_stay (header_gate_at h) 1 h from.0 c (inr (omega arith)) from.2 ∙ opens.spelled; lawful = opens.lawful } in
-              inr (older.0, subst (λ p. IsOpenOver s c p older.0) (sym next) now, older.2)
-          | inr shut ↦ inl (λ is. shut (ap (header_gate c) (sym next) ∙ is))
-        ]
-      ] in
-      record {
-        newest = record { opens = old_open s new old old_area lawful comes (header_gate_at h) 1 from.0 c (omega arith) (omega arith) from.2 was.whole.newest.opens; other = other };
-        area = old_area_stays s new old old_area lawful comes (header_gate_at h) 1 from.0 c (omega arith) from.2 was.whole.area;
+  -- one root more
+  pub one_more : (old : Option WholeRoot) (w : WholeRoot) (ws : List WholeRoot) (c : List ℕ) → IsOneOf s old (w ∷ []) c → IsOneOf s old (w ∷ ws) c
+  one_more old w ws c (inl is) = inl is
+  one_more old w ws c (inr shows) = inr (old_is_one old ws c shows)
+
+  pub tried_before : (number gate : ℕ) (old : Option WholeRoot) (w : WholeRoot) (ws : List WholeRoot) (c : List ℕ) → IsReplaceable s number gate old ws c → IsReplaceable s number gate old (w ∷ ws) c
+  tried_before number gate old w ws c is = record {
+    keeps = is.keeps;
+    under = elim is.under [ inl closed ↦ inl closed | inr has ↦ inr (elim has [ inl older ↦ inl older | inr one ↦ inr (inr one) ]) ];
+  }
+
+  pub tried_now : (number gate : ℕ) (old : Option WholeRoot) (w : WholeRoot) (ws : List WholeRoot) (c : List ℕ) → IsReplaceable s number gate old (w ∷ []) c → IsReplaceable s number gate old (w ∷ ws) c
+  tried_now number gate old w ws c is = record {
+    keeps = is.keeps;
+    under = elim is.under [ inl closed ↦ inl closed | inr has ↦ inr (elim has [ inl older ↦ inl older | inr one ↦ inr (elim one [ inl tried ↦ inl tried | inr none ↦ absurd none ]) ]) ];
+  }
+
+  module _ (lawful : IsTrue (is_shape s)) where
+    has_stays : (header : ℕ) (r : RootFields) (c d : List ℕ) → Agrees (header_gate_at header) 1 c d → HasFields s header r c → HasFields s header r d
+    has_stays header r c d a has = record { spelled = fields_stay (header_gate_at header) 1 header c d (inr (omega arith)) a ∙ has.spelled; lawful = has.lawful }
+
+    older_stays : (header : ℕ) (old : Option WholeRoot) (c d : List ℕ) → Agrees (header_gate_at header) 1 c d → HasOlder s header old c → HasOlder s header old d
+    older_stays header None c d a has = has
+    older_stays header (Some old) c d a has = (has.0, has_stays header has.0 c d a has.1, has.2)
+
+    tried_stays : (number : ℕ) (old : Option WholeRoot) (tried : List WholeRoot) (c d : List ℕ) → Agrees (header_gate_at (header_page number)) 1 c d → HasOneTried s (header_page number) old tried c → HasOneTried s (header_page number) old tried d
+    tried_stays number old [] c d a has = has
+    tried_stays number old (w ∷ ws) c d a (inl is) = inl (record {
+      fields = has_stays (header_page number) w.fields c d a is.fields;
+      area = area_above s (header_gate_at (header_page number)) 1 w.fields w.area c d lawful (omega (arith, header_two number)) a is.area;
+      next = is.next;
+    })
+    tried_stays number old (w ∷ ws) c d a (inr more) = inr (tried_stays number old ws c d a more)
+
+    module _ (number : ℕ) (old : Option WholeRoot) (comes : ComesNext old number) (tried : List WholeRoot) where
+      -- once the gate is closed, the new root may be written
+      pub closed_ready : (gate : ℕ) (c d : List ℕ) → IsReplaceable s number gate old tried c → Agrees (header_gate_at (header_page number)) 1 c d → header_gate d (header_page number) ≢ 1 → IsReady s number old d
+      closed_ready gate c d is a shut = record { keeps = kept_beside s number lawful old comes (header_gate_at (header_page number)) 1 c d (omega arith) (omega arith) a is.keeps; closed = shut }
+
+      -- while a gate that reads as open is closed, it may be tried again, whatever it reads as then
+      pub while_closing : (gate then : ℕ) (c d : List ℕ) → gate ≡ 1 → IsReplaceable s number gate old tried c → Agrees (header_gate_at (header_page number)) 1 c d → IsReplaceable s number then old tried d
+      while_closing gate then c d one is a = record {
+        keeps = kept_beside s number lawful old comes (header_gate_at (header_page number)) 1 c d (omega arith) (omega arith) a is.keeps;
+        under = elim is.under [
+          | inl closed ↦ absurd (closed.0 one)
+          | inr has ↦ inr (elim has [ inl older ↦ inl (older_stays (header_page number) old c d a older) | inr other ↦ inr (tried_stays number old tried c d a other) ])
+        ];
       }
 
-  -- once the gate is closed, the new root may be written
-  pub closed_ready : (c d : List ℕ) → IsWhole s old old_area c → Agrees (header_gate_at (header_page new.number)) 1 c d → header_gate d (header_page new.number) ≢ 1 → IsReady s (header_page new.number) old old_area d
-  closed_ready c d whole a shut =
-      let h = header_page new.number in
-      record {
-        opens = old_open s new old old_area lawful comes (header_gate_at h) 1 c d (omega arith) (omega arith) a whole.newest.opens;
-        area = old_area_stays s new old old_area lawful comes (header_gate_at h) 1 c d (omega arith) a whole.area;
-        closed = shut;
-      }
+      -- each image after the closing
+      pub closing_again : (before : List ℕ → Type 0) (gate then : ℕ) → Always before (IsReplaceable s number gate old tried) → (d : List ℕ) → After (Agrees (header_gate_at (header_page number)) 1) before d
+          → (gate ≢ 1 → before d × (then ≡ gate)) → IsReplaceable s number then old tried d
+      closing_again before gate then may d from unwritten = elim (cases_eq gate 1) [
+        | inl one ↦ while_closing gate then from.0 d one (may from.0 from.1) from.2
+        | inr other ↦ let is = unwritten other in subst (λ (g : ℕ). IsReplaceable s number g old tried d) (sym is.1) (may d is.0)
+      ]
 
-  -- while the new root's table area is written
-  pub while_parts : (before : List ℕ → Type 0) → Always before (IsReady s (header_page new.number) old old_area) → (c : List ℕ) → After (Within (area_range s (header_page new.number))) before c
-      → IsReady s (header_page new.number) old old_area c
-  while_parts before ready c from =
-      let h = header_page new.number in
-      let was = ready from.0 from.1 in
-      let high = areas_high s h lawful (header_two new.number) in
-      record {
-        opens = open_apart s _ _ (header_page old.number) old from.0 c (inl (omega (arith, high, header_two old.number))) from.2 was.opens;
-        area = area_apart s h old old_area from.0 c (header_two new.number) (λ e. comes.apart (sym e)) from.2 was.area;
-        closed = λ is. was.closed (sym (gate_stays _ _ h from.0 c (inl (omega (arith, high, header_two new.number))) from.2) ∙ is);
-      }
+      -- each moment of the closing
+      pub closing_moments : {D : Type 0} (moment : D → ℕ) (left_since : D → ℕ → List ℕ → Type 0) (first then : D) (before : List ℕ → Type 0) (gate : ℕ)
+          → LeavesOnly moment left_since first then (After (Agrees (header_gate_at (header_page number)) 1) before) → (gate ≢ 1 → LeavesOnly moment left_since first then before)
+          → Always before (IsReplaceable s number gate old tried) → LeavesOnly moment left_since first then (IsOneOf s old tried)
+      closing_moments moment left_since first then before gate written unwritten may = elim (cases_eq gate 1) [
+        | inl one ↦ weakened moment left_since first then _ _ written (λ d from. shown number 0 old tried d comes (while_closing gate 0 from.0 d one (may from.0 from.1) from.2))
+        | inr other ↦ weakened moment left_since first then _ _ (unwritten other) (λ d is. shown number gate old tried d comes (may d is))
+      ]
 
-  module _ {D : Type 0} (moment : D → ℕ) (left_since : D → ℕ → List ℕ → Type 0) where
-    -- each moment of the closing
-    pub closing_moments : (first then : D) (before : List ℕ → Type 0) (gate : ℕ) → LeavesOnly moment left_since first then (After (Agrees (header_gate_at (header_page new.number)) 1) before)
-        → (gate ≢ 1 → LeavesOnly moment left_since first then before) → Always before (IsWholeBeside s (header_page new.number) gate old old_area) → LeavesOnly moment left_since first then (IsWhole s old old_area)
-    closing_moments first then before gate written unwritten whole = elim (cases_eq gate 1) [
-      | inl one ↦ weakened moment left_since first then _ _ written (while_closing before gate whole one)
-      | inr other ↦ weakened moment left_since first then _ _ (unwritten other) (λ c may. (whole c may).whole)
-    ]
+-- where the old root is the newest, or there is none, the next may be written
+pub next_may_be : NextMayBeWritten
+next_may_be s number gate None image comes none is =
+    let shut : (header : ℕ) → header < 2 → header_gate image header ≢ 1 = λ header two. elim (one-of-two header two) [
+      | inl zeroth ↦ λ e. none.zeroth (ap (header_gate image) (sym zeroth) ∙ e)
+      | inr first ↦ λ e. none.first (ap (header_gate image) (sym first) ∙ e)
+    ] in
+    let closed = shut (header_page number) (header_two number) in
+    record { keeps = shut (header_page (number + 1)) (header_two (number + 1)); under = inl (λ e. closed (is ∙ e), closed) }
+next_may_be s number gate (Some old) image comes whole is =
+    let next : header_page (old.fields.number + 1) ≡ header_page number = other_header old.fields.number number comes.apart in
+    record {
+      keeps = record { opens = whole.newest.opens; area = whole.area };
+      under = elim whole.newest.other [
+        | inl shut ↦ let closed : header_gate image (header_page number) ≢ 1 = λ e. shut (ap (header_gate image) next ∙ e) in inl (λ e. closed (is ∙ e), closed)
+        | inr older ↦
+            let opens = subst (λ h. IsOpenOver s image h older.0) next older.1 in
+            inr (inl (older.0, record { spelled = opens.spelled; lawful = opens.lawful }, older.2))
+      ];
+    }
 
-    -- each moment while the table area is written
-    pub parts_moments : (first then : D) (before : List ℕ → Type 0) → LeavesOnly moment left_since first then (After (Within (area_range s (header_page new.number))) before)
-        → Always before (IsReady s (header_page new.number) old old_area) → LeavesOnly moment left_since first then (IsWhole s old old_area)
-    parts_moments first then before written ready = weakened moment left_since first then _ _ written (λ c from. still_newest s new old old_area lawful comes c (while_parts before ready c from))
+pub old_or_tried : OldOrTriedIsNewest
+old_or_tried s number gate old tried image comes is = shown s number gate old tried image comes is
+
+pub kept_older : KeptIsOlder
+kept_older s number old image comes keeps = kept_is_older s number old image comes keeps
+
+-- what is said of a failure holds where it always does
+pub on_err : {T E : Type 0} {P : Type 0} (r : Result T E) → P → OnErr r P
+on_err (Ok t) p = tt
+on_err (Err e) p = p
 
 -- the bytes of the gate, of the header page and of the table area are among those that a root writes
 pub gate_of_root : (s : Shape) (header : ℕ) (c d : List ℕ) → Agrees (header_gate_at header) 1 c d → AgreesOutside (root_ranges s header) c d

@@ -1,17 +1,23 @@
--- What an image shows of its roots while the fields and the gate of one of them are written.
-use Rattle.std.proofs.Common.{◌≡◌, ◌≢◌, ◌≤◌, ◌⊎◌, inl, inr, ◌+◌, ◌*◌, ℕ, List, [], ◌∷◌, length, slice_index, IsTrue, sym, ap, subst, ◌∙◌, arith}
-use Rattle.std.proofs.lemmas.Bool.{cases_eq}
+-- What an image shows of its roots while one of them is written.
+use Rattle.std.proofs.Common.{◌≡◌, ◌≢◌, ◌<◌, ◌≤◌, ◌⊎◌, inl, inr, ◌+◌, ◌*◌, ℕ, List, [], ◌∷◌, length, slice_index, IsTrue, sym, ap, ◌∙◌, arith}
+use Rattle.std.specs.Prelude.{Option, Some, None}
 use Rattle.grid_types.specs.declared.shape.Shape.{Shape}
-use Rattle.grid_types.specs.Shapes.{is_shape, header_page, header_gate_at, root_fields_at}
+use Rattle.grid_types.specs.Shapes.{is_shape, header_page, table_page, header_gate_at, root_fields_at}
+use Rattle.grid_types.proofs.Places.{table-page-lies}
 use Rattle.grid_model.specs.Spellings.{RootFields, root_bytes}
 use Rattle.grid_model.specs.Lawful.{IsRootOn, Area}
-use Rattle.grid_model.specs.Images.{header_gate, root_fields, IsOpenOver, HasArea}
+use Rattle.grid_model.specs.Images.{header_gate, root_fields, HasArea}
 use Rattle.disk_trait.specs.Disk.{Agrees, Holds}
 use Rattle.disk_trait.specs.Moments.{After, Always, AgreesOutside}
 use Rattle.disk_trait.proofs.Pages.{page_apart, byte_written}
 use Rattle.disk_trait.proofs.Ranges.{outside_one, outside_more, outside_then}
-use Rattle.file_roots.specs.Replacing.{IsWhole, IsOneOf, ComesAfter, IsOtherOlder, IsReady, header_ranges}
-use Rattle.file_roots.proofs.Headers.{header_two, gate_is, gate_stays, fields_stay, open_apart, area_above}
+use Rattle.file_roots.specs.Roots.{WholeRoot}
+use Rattle.file_roots.specs.Replacing.{IsWhole, ComesNext, IsOtherOlder, KeepsOld, IsReady, IsReplaceable, Within, area_range, header_ranges}
+use Rattle.file_roots.proofs.Headers.{header_two, gate_is, gate_stays, fields_stay, open_apart, area_above, area_apart}
+
+-- both header pages lie before a table area
+pub areas_high : (s : Shape) (area : ℕ) → IsTrue (is_shape s) → area < 2 → 8192 ≤ table_page s area 0 * 4096
+areas_high s area lawful two = let p = table-page-lies s area 0 lawful two (omega arith) in omega (arith, p.first)
 
 -- the header page behind a root's is the other one
 pub other_header : (n m : ℕ) → header_page n ≢ header_page m → header_page (n + 1) ≡ header_page m
@@ -54,60 +60,78 @@ finished s new new_area mid end lawful low root fields area other a holds =
       area = area_above s (header_gate_at h) 1 new new_area mid end lawful (omega (arith, header_two new.number)) a area;
     }
 
-module _ (s : Shape) (new : RootFields) (old : RootFields) (old_area : Area) (lawful : IsTrue (is_shape s)) (comes : ComesAfter old new.number) where
-  -- the old root stays where only the new one's header page changes
-  pub old_open : (at n : ℕ) (c d : List ℕ) → header_page new.number * 4096 ≤ at → at + n ≤ header_page new.number * 4096 + 4096 → Agrees at n c d → IsOpenOver s c (header_page old.number) old → IsOpenOver s d (header_page old.number) old
-  old_open at n c d low high a o = open_apart s at n (header_page old.number) old c d (off_page (header_page old.number) (header_page new.number) at n comes.apart low high) a o
+-- the other header page than a root's stays closed or older where a table area changes
+pub other_above : (s : Shape) (number area : ℕ) (c d : List ℕ) → IsTrue (is_shape s) → area < 2 → Within (area_range s area) c d → IsOtherOlder s number c → IsOtherOlder s number d
+other_above s number area c d lawful two a other =
+    let high = areas_high s area lawful two in
+    let h = header_page (number + 1) in
+    elim other [
+      | inl shut ↦ inl (λ is. shut (sym (gate_stays _ _ h c d (inl (omega (arith, high, header_two (number + 1)))) a) ∙ is))
+      | inr older ↦ inr (older.0, open_apart s _ _ h older.0 c d (inl (omega (arith, high, header_two (number + 1)))) a older.1, older.2)
+    ]
 
-  pub old_area_stays : (at n : ℕ) (c d : List ℕ) → at + n ≤ header_page new.number * 4096 + 4096 → Agrees at n c d → HasArea s c old old_area → HasArea s d old old_area
-  old_area_stays at n c d high a area = area_above s at n old old_area c d lawful (omega (arith, header_two new.number, high)) a area
-
-  -- while the fields are written under the closed gate
-  pub while_fields : (before : List ℕ → Type 0) → Always before (IsReady s (header_page new.number) old old_area) → (c : List ℕ) → After (Agrees (root_fields_at (header_page new.number)) 56) before c
-      → IsReady s (header_page new.number) old old_area c
-  while_fields before ready c from =
-      let h = header_page new.number in
-      let was = ready from.0 from.1 in
-      record {
-        opens = old_open (root_fields_at h) 56 from.0 c (omega arith) (omega arith) from.2 was.opens;
-        area = old_area_stays (root_fields_at h) 56 from.0 c (omega arith) from.2 was.area;
-        closed = λ is. was.closed (sym (gate_stays (root_fields_at h) 56 h from.0 c (inl (omega arith)) from.2) ∙ is);
-      }
-
-  -- where the new root's gate is closed the old root is the newest
-  pub still_newest : (c : List ℕ) → IsReady s (header_page new.number) old old_area c → IsWhole s old old_area c
-  still_newest c ready = record {
-    newest = record { opens = ready.opens; other = inl (λ is. ready.closed (ap (header_gate c) (sym (other_header old.number new.number comes.apart)) ∙ is)) };
-    area = ready.area;
+module _ (s : Shape) (number : ℕ) (lawful : IsTrue (is_shape s)) where
+  -- the old root is kept where only the next one's header page changes
+  pub kept_beside : (old : Option WholeRoot) → ComesNext old number → (at n : ℕ) (c d : List ℕ) → header_page number * 4096 ≤ at → at + n ≤ header_page number * 4096 + 4096 → Agrees at n c d → KeepsOld s number old c → KeepsOld s number old d
+  kept_beside None comes at n c d low high a shut =
+      λ is. shut (ap (λ p. slice_index p 64) (sym (page_apart at n (header_page (number + 1)) c d (off_page (header_page (number + 1)) (header_page number) at n (next_header number) low high) a)) ∙ is)
+  kept_beside (Some old) comes at n c d low high a stands = record {
+    opens = open_apart s at n (header_page old.fields.number) old.fields c d (off_page (header_page old.fields.number) (header_page number) at n comes.apart low high) a stands.opens;
+    area = area_above s at n old.fields old.area c d lawful (omega (arith, header_two number, high)) a stands.area;
   }
 
-  -- where the old root is open, the other header page than the new one's is older
-  pub old_is_older : (c : List ℕ) → IsOpenOver s c (header_page old.number) old → IsOtherOlder s new.number c
-  old_is_older c opens = inr (old, subst (λ h. IsOpenOver s c h old) (sym (other_header new.number old.number (λ e. comes.apart (sym e)))) opens, comes.later)
+  -- and where only its table area does
+  pub kept_below : (old : Option WholeRoot) → ComesNext old number → (c d : List ℕ) → Within (area_range s (header_page number)) c d → KeepsOld s number old c → KeepsOld s number old d
+  kept_below None comes c d a shut =
+      let high = areas_high s (header_page number) lawful (header_two number) in
+      λ is. shut (sym (gate_stays _ _ (header_page (number + 1)) c d (inl (omega (arith, high, header_two (number + 1)))) a) ∙ is)
+  kept_below (Some old) comes c d a stands =
+      let high = areas_high s (header_page number) lawful (header_two number) in
+      record {
+        opens = open_apart s _ _ (header_page old.fields.number) old.fields c d (inl (omega (arith, high, header_two old.fields.number))) a stands.opens;
+        area = area_apart s (header_page number) old.fields old.area c d (header_two number) (λ e. comes.apart (sym e)) a stands.area;
+      }
 
-  module _ (new_area : Area) (root : IsRootOn s (header_page new.number) new) where
-    -- what stands under the closed gate once the fields are on the disk
-    pub record IsStaged (c : List ℕ) : Type 0 where
-      pub ready : IsReady s (header_page new.number) old old_area c
-      pub fields : root_fields c (header_page new.number) ≡ root_bytes new
-      pub area : HasArea s c new new_area
+  module _ (old : Option WholeRoot) (comes : ComesNext old number) where
+    -- while the fields are written under the closed gate
+    pub while_fields : (c d : List ℕ) → IsReady s number old c → Agrees (root_fields_at (header_page number)) 56 c d → IsReady s number old d
+    while_fields c d was a =
+        let h = header_page number in
+        record {
+          keeps = kept_beside old comes (root_fields_at h) 56 c d (omega arith) (omega arith) a was.keeps;
+          closed = λ is. was.closed (sym (gate_stays (root_fields_at h) 56 h c d (inl (omega arith)) a) ∙ is);
+        }
 
-    -- while the gate is opened
-    pub while_gate : (mid : List ℕ → Type 0) → Always mid IsStaged → (c : List ℕ) → After (Agrees (header_gate_at (header_page new.number)) 1) mid c → IsOneOf s old old_area new new_area c
-    while_gate mid staged c from =
-        let h = header_page new.number in
-        let was = staged from.0 from.1 in
-        let kept = old_open (header_gate_at h) 1 from.0 c (omega arith) (omega arith) from.2 was.ready.opens in
-        elim (cases_eq (header_gate c h) 1) [
-          | inl is ↦ inr (record {
-            newest = record {
-              opens = record { gate = is; spelled = fields_stay (header_gate_at h) 1 h from.0 c (inr (omega arith)) from.2 ∙ was.fields; lawful = root };
-              other = old_is_older c kept;
-            };
-            area = area_above s (header_gate_at h) 1 new new_area from.0 c lawful (omega (arith, header_two new.number)) from.2 was.area;
-          })
-          | inr shut ↦ inl (still_newest c (record { opens = kept; area = old_area_stays (header_gate_at h) 1 from.0 c (omega arith) from.2 was.ready.area; closed = shut }))
-        ]
+    -- while the table area is written
+    pub while_parts : (c d : List ℕ) → IsReady s number old c → Within (area_range s (header_page number)) c d → IsReady s number old d
+    while_parts c d was a =
+        let h = header_page number in
+        let high = areas_high s h lawful (header_two number) in
+        record { keeps = kept_below old comes c d a was.keeps; closed = λ is. was.closed (sym (gate_stays _ _ h c d (inl (omega (arith, high, header_two number))) a) ∙ is) }
+
+    -- a closed gate may be tried again, and an image where it is closed is ready
+    pub ready_again : (tried : List WholeRoot) (before : List ℕ → Type 0) (seen : List ℕ) → before seen → Always before (IsReady s number old) → Always before (IsReplaceable s number (header_gate seen (header_page number)) old tried)
+    ready_again tried before seen is ready c may = record { keeps = (ready c may).keeps; under = inl ((ready seen is).closed, (ready c may).closed) }
+
+module _ (s : Shape) (new : WholeRoot) (lawful : IsTrue (is_shape s)) (root : IsRootOn s (header_page new.fields.number) new.fields) (old : Option WholeRoot) (comes : ComesNext old new.fields.number) where
+  -- what stands under the closed gate once the fields are on the disk
+  pub record IsStaged (c : List ℕ) : Type 0 where
+    pub ready : IsReady s new.fields.number old c
+    pub fields : root_fields c (header_page new.fields.number) ≡ root_bytes new.fields
+    pub area : HasArea s c new.fields new.area
+
+  -- while the gate is opened
+  pub while_gate : (gate : ℕ) (c d : List ℕ) → IsStaged c → Agrees (header_gate_at (header_page new.fields.number)) 1 c d → IsReplaceable s new.fields.number gate old (new ∷ []) d
+  while_gate gate c d was a =
+      let h = header_page new.fields.number in
+      record {
+        keeps = kept_beside s new.fields.number lawful old comes (header_gate_at h) 1 c d (omega arith) (omega arith) a was.ready.keeps;
+        under = inr (inr (inl (record {
+          fields = record { spelled = fields_stay (header_gate_at h) 1 h c d (inr (omega arith)) a ∙ was.fields; lawful = root };
+          area = area_above s (header_gate_at h) 1 new.fields new.area c d lawful (omega (arith, header_two new.fields.number)) a was.area;
+          next = comes;
+        })));
+      }
 
 -- the fields are among the bytes of a header page that a root writes
 pub fields_among : (header : ℕ) (c d : List ℕ) → Agrees (root_fields_at header) 56 c d → AgreesOutside (header_ranges header) c d

@@ -1,5 +1,6 @@
 -- An image has one newest root with one table area, and is then not damaged.
-use Rattle.std.proofs.Common.{◌≡◌, ◌≢◌, ◌<◌, inl, inr, ◌+◌, ◌*◌, ◌/◌, ◌%◌, ◌++◌, ℕ, List, [], length, take, drop, IsTrue, refl, sym, ap, ◌∙◌, subst, arith}
+use Rattle.std.proofs.Common.{◌≡◌, ◌≢◌, ◌<◌, inl, inr, ◌+◌, ◌*◌, ◌/◌, ◌%◌, ◌++◌, ℕ, List, [], ◌∷◌, length, take, drop, IsTrue, refl, sym, ap, ◌∙◌, subst, arith}
+use Rattle.std.specs.Prelude.{Option, Some, None}
 use Rattle.std.proofs.lemmas.Bool.{cases_eq}
 use Rattle.std.proofs.lemmas.List.{same_lists, get_or_default}
 use Rattle.grid_types.specs.declared.shape.Shape.{Shape}
@@ -14,7 +15,8 @@ use Rattle.grid_model.specs.Images.{header_gate, IsOpenOver, IsNewest, HasArea}
 use Rattle.root_pages.proofs.RootPlaces.{number_there, fields_there, on_header}
 use Rattle.root_pages.proofs.Roots.{few_attributes, in_range, root_again}
 use Rattle.file_roots.specs.Damage.{SpellsUpTo, AreAlike, IsFirstMisspelt, HasBadPart, IsRootDamage}
-use Rattle.file_roots.specs.Replacing.{IsWhole}
+use Rattle.file_roots.specs.Roots.{WholeRoot}
+use Rattle.file_roots.specs.Replacing.{IsWhole, IsOneOf, IsAmong, NewestIsAmong}
 use Rattle.file_roots.proofs.Pieces.{piece_last}
 use Rattle.file_roots.proofs.Spelled.{few, scale_there, list_there, one_scale, one_list}
 use Rattle.file_roots.proofs.Agreeing.{one_table_of}
@@ -134,3 +136,22 @@ only_whole s image r q a b lawful newest area whole =
     let root = newest.opens.lawful in
     let other : HasArea s image r b = subst (λ f. HasArea s image f b) same whole.area in
     (same, one_area s image lawful r root b a (by_pages s image r b lawful root other).spelled (by_pages s image r a lawful root area).spelled)
+
+-- the newest root is one of those of which one is the newest
+module _ (s : Shape) (image : List ℕ) (lawful : IsTrue (is_shape s)) (r : RootFields) (newest : IsNewest s image r) where
+  -- a whole root is the newest with its area
+  same_whole : (w : WholeRoot) → IsWhole s w.fields w.area image → HasArea s image r w.area × (record { fields = r; area = w.area } ≡ w)
+  same_whole w whole =
+      let same : w.fields ≡ r = one_newest s image lawful w.fields r whole.newest newest in
+      (subst (λ f. HasArea s image f w.area) same whole.area, λ i. record { fields = sym same i; area = w.area })
+
+  among : (old : Option WholeRoot) (others : List WholeRoot) → IsOneOf s old others image → (a : Area) × HasArea s image r a × IsAmong old others (record { fields = r; area = a })
+  among None [] none = absurd (one_open_at_least s image lawful r newest none.zeroth none.first)
+  among (Some old) [] whole = let is = same_whole old whole in (old.area, is.0, is.1)
+  among None (w ∷ ws) (inl whole) = let is = same_whole w whole in (w.area, is.0, inl is.1)
+  among (Some old) (w ∷ ws) (inl whole) = let is = same_whole w whole in (w.area, is.0, inl is.1)
+  among None (w ∷ ws) (inr more) = let is = among None ws more in (is.0, is.1, inr is.2)
+  among (Some old) (w ∷ ws) (inr more) = let is = among (Some old) ws more in (is.0, is.1, inr is.2)
+
+pub newest_is_among : NewestIsAmong
+newest_is_among s old others image r lawful one newest = among s image lawful r newest old others one

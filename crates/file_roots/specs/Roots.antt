@@ -23,6 +23,15 @@ fields_of root = record {
 abbrev pub area_of : {K : ℕ} → Root K → Area
 area_of root = record { scales = scales_of root.scales; parts = root.parts; table = root.table }
 
+-- a root as a file has it: the fields on its header page, and what its table area says
+pub record WholeRoot : Type 0 where
+  pub fields : RootFields
+  pub area : Area
+
+-- the whole of a root
+abbrev pub whole_of : {K : ℕ} → Root K → WholeRoot
+whole_of root = record { fields = fields_of root; area = area_of root }
+
 -- a root has a spelling in a file of this shape: its fields are lawful on its header page, and its table area is lawful for them
 pub record IsRoot {K : ℕ} (shape : Shape) (root : Root K) : Type 0 where
   pub fields : IsRootOn shape (header_page root.number) (fields_of root)

@@ -1,15 +1,13 @@
 //! A root is finished: its fields are written, and then its gate is opened.
-ghost use Rattle.std.specs.Prelude.{◌≡◌, ◌<◌, ◌≤◌, ◌+◌, ◌*◌, ◌%◌, ◌^◌, List, ℕ, IsTrue, OnOk, length};
+ghost use Rattle.std.specs.Prelude.{◌≡◌, ◌<◌, ◌≤◌, ◌+◌, ◌*◌, ◌%◌, ◌^◌, List, [], ◌∷◌, ℕ, Option, IsTrue, OnOk, OnErr, length};
 ghost use Rattle.grid_types.specs.Shapes.{is_shape, file_pages, header_page, header_gate_at, root_fields_at};
 ghost use Rattle.grid_model.specs.Spellings.{root_bytes};
-ghost use Rattle.grid_model.specs.Spellings as model;
-ghost use Rattle.grid_model.specs.Lawful.{Area};
-ghost use Rattle.grid_model.specs.Images.{root_fields, HasArea};
+ghost use Rattle.grid_model.specs.Images.{header_gate, root_fields, HasArea};
 ghost use Rattle.disk_trait.specs.Causes.{HasCause};
 ghost use Rattle.disk_trait.specs.Disk.{Only, Agrees};
 ghost use Rattle.disk_trait.specs.Moments.{After, Always, AgreesOutside, LeavesOnly};
-ghost use Rattle.file_roots.specs.Roots.{fields_of, area_of, IsRoot};
-ghost use Rattle.file_roots.specs.Replacing.{IsWhole, IsOneOf, ComesAfter, IsOtherOlder, IsReady, header_ranges};
+ghost use Rattle.file_roots.specs.Roots.{WholeRoot, fields_of, area_of, whole_of, IsRoot};
+ghost use Rattle.file_roots.specs.Replacing.{IsWhole, IsOneOf, ComesNext, IsOtherOlder, IsReady, IsReplaceable, header_ranges};
 
 use crate::Root;
 use crate::root::fields;
@@ -43,7 +41,8 @@ fn write_fields<D: Disk, const K: usize>(
 }
 
 /// Writes the fields of a root, syncs, opens its gate, and syncs. Its table area was written before, and its header page
-/// was closed. At each moment of it the old root or this one is the newest, with its whole table area.
+/// was closed. At each moment of it the old root or this one is the newest, with its whole table area; in a new file there
+/// is no root, or this one. After a failure it may be tried again.
 pub fn finish_root<D: Disk, const K: usize>(
     disk: &mut D,
     layout: &Layout,
@@ -54,10 +53,14 @@ pub fn finish_root<D: Disk, const K: usize>(
     requires attributes { layout.now.shape.k ≡ K }
     requires root { IsRoot layout.now.shape root.now }
     requires size { file_pages layout.now.shape * 4096 ≤ D.extent disk.old }
-    ensures old_or_new { IsTrue (D.honest disk.old) → (old : model.RootFields) (old_area : Area) → ComesAfter old root.now.number
+    ensures old_or_new { IsTrue (D.honest disk.old) → (old : Option WholeRoot) → ComesNext old root.now.number
         → HasArea layout.now.shape (D.seen disk.old) (fields_of root.now) (area_of root.now)
-        → Always (D.may_leave disk.old) (IsReady layout.now.shape (header_page root.now.number) old old_area)
-        → LeavesOnly D.moment D.left_since disk.old disk.new (IsOneOf layout.now.shape old old_area (fields_of root.now) (area_of root.now)) }
+        → Always (D.may_leave disk.old) (IsReady layout.now.shape root.now.number old)
+        → LeavesOnly D.moment D.left_since disk.old disk.new (IsOneOf layout.now.shape old (whole_of root.now ∷ [])) }
+    ensures again { IsTrue (D.honest disk.old) → (old : Option WholeRoot) → ComesNext old root.now.number
+        → HasArea layout.now.shape (D.seen disk.old) (fields_of root.now) (area_of root.now)
+        → Always (D.may_leave disk.old) (IsReady layout.now.shape root.now.number old)
+        → OnErr result (Always (D.may_leave disk.new) (IsReplaceable layout.now.shape root.now.number (header_gate (D.seen disk.new) (header_page root.now.number)) old (whole_of root.now ∷ []))) }
     ensures finished { IsTrue (D.honest disk.old) → HasArea layout.now.shape (D.seen disk.old) (fields_of root.now) (area_of root.now) → IsOtherOlder layout.now.shape root.now.number (D.seen disk.old)
         → OnOk result (IsWhole layout.now.shape (fields_of root.now) (area_of root.now) (D.seen disk.new)) }
     ensures elsewhere { IsTrue (D.honest disk.old) → LeavesOnly D.moment D.left_since disk.old disk.new (After (AgreesOutside (header_ranges (header_page root.now.number))) (D.may_leave disk.old)) }

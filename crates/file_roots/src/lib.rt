@@ -15,7 +15,7 @@ mod root;
 
 pub use closing::close_root;
 pub use finishing::finish_root;
-pub use laws::{area_law, damage_law};
+pub use laws::{area_law, damage_law, replacing_law};
 pub use parts::write_part;
 pub use reading::read_newest;
 pub use replacing::replace_root;

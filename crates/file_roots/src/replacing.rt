@@ -1,15 +1,13 @@
 //! A root is written in place of the one before the newest.
-ghost use Rattle.std.specs.Prelude.{◌≡◌, ◌⊎◌, ◌≤◌, ◌+◌, ◌*◌, List, ℕ, IsTrue, OnOk, IfErr, IsErrOf};
+ghost use Rattle.std.specs.Prelude.{◌≡◌, ◌⊎◌, ◌≤◌, ◌+◌, ◌*◌, List, ◌∷◌, ℕ, Option, IsTrue, OnOk, OnErr, IfErr, IsErrOf};
 ghost use Rattle.grid_types.specs.declared.refusal.Refusal.TheVariants.{ReadFault, WriteFault};
 ghost use Rattle.grid_types.specs.Shapes.{is_shape, file_pages, header_page};
-ghost use Rattle.grid_model.specs.Spellings as model;
-ghost use Rattle.grid_model.specs.Lawful.{Area};
 ghost use Rattle.grid_model.specs.Images.{header_gate};
 ghost use Rattle.disk_trait.specs.Causes.{Rose};
 ghost use Rattle.disk_trait.specs.Disk.{Only};
 ghost use Rattle.disk_trait.specs.Moments.{After, Always, AgreesOutside, LeavesOnly};
-ghost use Rattle.file_roots.specs.Roots.{fields_of, area_of, IsRoot};
-ghost use Rattle.file_roots.specs.Replacing.{IsWhole, IsOneOf, IsWholeBeside, ComesAfter, IsOtherOlder, root_ranges};
+ghost use Rattle.file_roots.specs.Roots.{WholeRoot, fields_of, area_of, whole_of, IsRoot};
+ghost use Rattle.file_roots.specs.Replacing.{IsWhole, IsOneOf, ComesNext, IsOtherOlder, IsReplaceable, root_ranges};
 
 use crate::parts::write_parts;
 use crate::{Root, close_root, finish_root};
@@ -18,7 +16,8 @@ use grid_types::{Layout, Refusal};
 use std::sync::ledger::Ledger;
 
 /// Closes the header page of a root, writes its table area, and finishes it. At each moment of it the old root, which
-/// stands on the other header page, or this one is the newest, with its whole table area.
+/// stands on the other header page, or this one is the newest, with its whole table area; or one that an earlier attempt
+/// tried to write and failed. In a new file there is no root, or this one. After a failure it may be tried again.
 pub fn replace_root<D: Disk, L: Ledger, const K: usize>(
     disk: &mut D,
     layout: &Layout,
@@ -30,9 +29,12 @@ pub fn replace_root<D: Disk, L: Ledger, const K: usize>(
     requires attributes { layout.now.shape.k ≡ K }
     requires root { IsRoot layout.now.shape root.now }
     requires size { file_pages layout.now.shape * 4096 ≤ D.extent disk.old }
-    ensures old_or_new { IsTrue (D.honest disk.old) → (old : model.RootFields) (old_area : Area) → ComesAfter old root.now.number
-        → Always (D.may_leave disk.old) (IsWholeBeside layout.now.shape (header_page root.now.number) (header_gate (D.seen disk.old) (header_page root.now.number)) old old_area)
-        → LeavesOnly D.moment D.left_since disk.old disk.new (IsOneOf layout.now.shape old old_area (fields_of root.now) (area_of root.now)) }
+    ensures old_or_new { IsTrue (D.honest disk.old) → (old : Option WholeRoot) (tried : List WholeRoot) → ComesNext old root.now.number
+        → Always (D.may_leave disk.old) (IsReplaceable layout.now.shape root.now.number (header_gate (D.seen disk.old) (header_page root.now.number)) old tried)
+        → LeavesOnly D.moment D.left_since disk.old disk.new (IsOneOf layout.now.shape old (whole_of root.now ∷ tried)) }
+    ensures again { IsTrue (D.honest disk.old) → (old : Option WholeRoot) (tried : List WholeRoot) → ComesNext old root.now.number
+        → Always (D.may_leave disk.old) (IsReplaceable layout.now.shape root.now.number (header_gate (D.seen disk.old) (header_page root.now.number)) old tried)
+        → OnErr result (Always (D.may_leave disk.new) (IsReplaceable layout.now.shape root.now.number (header_gate (D.seen disk.new) (header_page root.now.number)) old (whole_of root.now ∷ tried))) }
     ensures replaced { IsTrue (D.honest disk.old) → IsOtherOlder layout.now.shape root.now.number (D.seen disk.old) → OnOk result (IsWhole layout.now.shape (fields_of root.now) (area_of root.now) (D.seen disk.new)) }
     ensures elsewhere { IsTrue (D.honest disk.old) → LeavesOnly D.moment D.left_since disk.old disk.new (After (AgreesOutside (root_ranges layout.now.shape (header_page root.now.number))) (D.may_leave disk.old)) }
     ensures outside { IsTrue (D.honest disk.old) → AgreesOutside (root_ranges layout.now.shape (header_page root.now.number)) (D.seen disk.old) (D.seen disk.new) }

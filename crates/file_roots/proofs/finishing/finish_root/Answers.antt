@@ -1,16 +1,17 @@
-use Rattle.std.proofs.Common.{◌≡◌, ◌≤◌, ◌∙◌, ℕ, List, inl, sym, subst, arith, length}
+use Rattle.std.proofs.Common.{◌≡◌, ◌≤◌, ◌∙◌, ℕ, List, [], ◌∷◌, inr, sym, subst, arith, length}
 use Rattle.std.proofs.lemmas.Result.{on_ok_weaker}
 use Rattle.grid_types.specs.Shapes.{header_page, header_gate_at, root_fields_at}
 use Rattle.grid_model.specs.Spellings.{root_bytes}
 use Rattle.grid_model.specs.Images.{HasArea, root_fields}
 use Rattle.disk_trait.specs.Disk.{Agrees}
-use Rattle.disk_trait.specs.Moments.{After}
+use Rattle.disk_trait.specs.Moments.{After, Always}
 use Rattle.disk_trait.proofs.Moments.{joined, weakened}
 use Rattle.disk_trait.proofs.Ranges.{outside_then}
-use Rattle.file_roots.specs.Roots.{fields_of, area_of}
-use Rattle.file_roots.specs.Replacing.{IsOtherOlder}
+use Rattle.file_roots.specs.Roots.{fields_of, area_of, whole_of}
+use Rattle.file_roots.specs.Replacing.{IsOtherOlder, IsReady}
 use Rattle.file_roots.proofs.Headers.{header_two, header_inside, area_above}
-use Rattle.file_roots.proofs.Stages.{while_fields, still_newest, IsStaged, while_gate, finished, other_stays, fields_among, gate_among, gate_elsewhere}
+use Rattle.file_roots.proofs.Stages.{while_fields, ready_again, IsStaged, while_gate, finished, other_stays, fields_among, gate_among, gate_elsewhere}
+use Rattle.file_roots.proofs.Exchange.{shows_old, shown, on_err}
 use Rattle.file_roots.proofs.finishing.finish_root.Goals as goal
 
 pub write_through-requires : goal.write_through-requires
@@ -19,11 +20,24 @@ write_through-requires g c =
     record { some = omega arith; page = omega arith; inside = omega (arith, low, c.in-Ok.ensures.extent) }
 
 pub returns-in-Err-clause-old_or_new : goal.returns-in-Err-clause-old_or_new
-returns-in-Err-clause-old_or_new g c = λ h old old_area comes area ready.
+returns-in-Err-clause-old_or_new g c = λ h old comes area ready.
     let s = c.args.layout.now.shape in
-    let new = fields_of c.args.root.now in
+    let number = c.args.root.now.number in
     weakened g.D.Disk.moment g.D.Disk.left_since c.args.disk.now c.write_fields.new.disk _ _ (c.in-Err.ensures.moments h)
-    (λ i from. inl (still_newest s new old old_area c.requires.lawful comes i (while_fields s new old old_area c.requires.lawful comes (g.D.Disk.may_leave c.args.disk.now) ready i from)))
+    (λ i from. inr (shows_old s number old i comes (while_fields s number c.requires.lawful old comes from.0 i (ready from.0 from.1) from.2)))
+
+pub returns-in-Err-clause-again : goal.returns-in-Err-clause-again
+returns-in-Err-clause-again g c = λ h old comes area ready.
+    let s = c.args.layout.now.shape in
+    let number = c.args.root.now.number in
+    let lawful = c.requires.lawful in
+    let mid = c.write_fields.new.disk in
+    let told = c.in-Err.ensures.honest ∙ h in
+    let moments = c.in-Err.ensures.moments h in
+    let now : Always (g.D.Disk.may_leave mid) (IsReady s number old) = λ i may.
+    let from = moments.each i (g.met.D.Disk.counts_now mid (g.D.Disk.moment c.args.disk.now) i told moments.later may) in
+    while_fields s number lawful old comes from.0 i (ready from.0 from.1) from.2 in
+    ready_again s number lawful old comes (whole_of c.args.root.now ∷ []) (g.D.Disk.may_leave mid) (g.D.Disk.seen mid) (g.met.D.Disk.seen_now mid told) now
 
 pub returns-in-Err-clause-elsewhere : goal.returns-in-Err-clause-elsewhere
 returns-in-Err-clause-elsewhere g c = λ h.
@@ -33,27 +47,48 @@ pub returns-in-Err-clause-outside : goal.returns-in-Err-clause-outside
 returns-in-Err-clause-outside g c = λ h. fields_among (header_page c.args.root.now.number) _ _ (c.in-Err.ensures.outside h)
 
 pub returns-clause-old_or_new : goal.returns-clause-old_or_new
-returns-clause-old_or_new g c = λ h old old_area comes area ready.
+returns-clause-old_or_new g c = λ h old comes area ready.
     let s = c.args.layout.now.shape in
-    let new = fields_of c.args.root.now in
-    let new_area = area_of c.args.root.now in
-    let header = header_page new.number in
+    let new = whole_of c.args.root.now in
+    let number = c.args.root.now.number in
+    let header = header_page number in
     let lawful = c.requires.lawful in
     let root = c.requires.root.fields in
     let told = c.in-Ok.ensures.honest ∙ h in
-    let before = g.D.Disk.may_leave c.args.disk.now in
     let mid = c.write_fields.new.disk in
     let first = c.in-Ok.ensures.moments h in
-    let stays : HasArea s (g.D.Disk.seen mid) new new_area = area_above s (root_fields_at header) 56 new new_area (g.D.Disk.seen c.args.disk.now) (g.D.Disk.seen mid) lawful (omega (arith, header_two new.number)) (c.in-Ok.ensures.outside h) area in
-    let staged : (i : List ℕ) → g.D.Disk.may_leave mid i → IsStaged s new old old_area lawful comes new_area root i = λ i now.
+    let stays : HasArea s (g.D.Disk.seen mid) new.fields new.area = area_above s (root_fields_at header) 56 new.fields new.area (g.D.Disk.seen c.args.disk.now) (g.D.Disk.seen mid) lawful (omega (arith, header_two number)) (c.in-Ok.ensures.outside h) area in
+    let staged : (i : List ℕ) → g.D.Disk.may_leave mid i → IsStaged s new lawful root old comes i = λ i now.
+    let from = first.each i (g.met.D.Disk.counts_now mid (g.D.Disk.moment c.args.disk.now) i told first.later now) in
     record {
-      ready = while_fields s new old old_area lawful comes before ready i (first.each i (g.met.D.Disk.counts_now mid (g.D.Disk.moment c.args.disk.now) i told first.later now));
-      fields = subst (λ x. root_fields x header ≡ root_bytes new) (sym (c.in-Ok.ensures.durable h i now)) (c.in-Ok.ensures.fields h);
-      area = subst (λ x. HasArea s x new new_area) (sym (c.in-Ok.ensures.durable h i now)) stays;
+      ready = while_fields s number lawful old comes from.0 i (ready from.0 from.1) from.2;
+      fields = subst (λ x. root_fields x header ≡ root_bytes new.fields) (sym (c.in-Ok.ensures.durable h i now)) (c.in-Ok.ensures.fields h);
+      area = subst (λ x. HasArea s x new.fields new.area) (sym (c.in-Ok.ensures.durable h i now)) stays;
     } in
     joined g.D.Disk.moment g.D.Disk.left_since c.args.disk.now mid c.write_through.new.disk _ _ _ first (c.write_through.ensures.moments told)
-    (λ i from. inl (still_newest s new old old_area lawful comes i (while_fields s new old old_area lawful comes before ready i from)))
-    (while_gate s new old old_area lawful comes new_area root (g.D.Disk.may_leave mid) staged)
+    (λ i from. inr (shows_old s number old i comes (while_fields s number lawful old comes from.0 i (ready from.0 from.1) from.2)))
+    (λ i from. shown s number 0 old (new ∷ []) i comes (while_gate s new lawful root old comes 0 from.0 i (staged from.0 from.1) from.2))
+
+pub returns-clause-again : goal.returns-clause-again
+returns-clause-again g c = λ h old comes area ready.
+    let s = c.args.layout.now.shape in
+    let new = whole_of c.args.root.now in
+    let number = c.args.root.now.number in
+    let header = header_page number in
+    let lawful = c.requires.lawful in
+    let root = c.requires.root.fields in
+    let told = c.in-Ok.ensures.honest ∙ h in
+    let mid = c.write_fields.new.disk in
+    let first = c.in-Ok.ensures.moments h in
+    let stays : HasArea s (g.D.Disk.seen mid) new.fields new.area = area_above s (root_fields_at header) 56 new.fields new.area (g.D.Disk.seen c.args.disk.now) (g.D.Disk.seen mid) lawful (omega (arith, header_two number)) (c.in-Ok.ensures.outside h) area in
+    let staged : (i : List ℕ) → g.D.Disk.may_leave mid i → IsStaged s new lawful root old comes i = λ i now.
+    let from = first.each i (g.met.D.Disk.counts_now mid (g.D.Disk.moment c.args.disk.now) i told first.later now) in
+    record {
+      ready = while_fields s number lawful old comes from.0 i (ready from.0 from.1) from.2;
+      fields = subst (λ x. root_fields x header ≡ root_bytes new.fields) (sym (c.in-Ok.ensures.durable h i now)) (c.in-Ok.ensures.fields h);
+      area = subst (λ x. HasArea s x new.fields new.area) (sym (c.in-Ok.ensures.durable h i now)) stays;
+    } in
+    on_err c.write_through.result (λ i now. let from = c.write_through.ensures.crash told i now in while_gate s new lawful root old comes _ from.0 i (staged from.0 from.1) from.2)
 
 pub returns-clause-finished : goal.returns-clause-finished
 returns-clause-finished g c = λ h area other.

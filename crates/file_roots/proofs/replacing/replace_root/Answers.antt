@@ -1,22 +1,50 @@
-use Rattle.std.proofs.Common.{◌∙◌, inl, sym, subst, arith}
+use Rattle.std.proofs.Common.{◌≡◌, ◌≢◌, ◌∙◌, ℕ, List, ◌∷◌, inr, sym, ap, subst, arith}
 use Rattle.grid_types.specs.Shapes.{header_page, header_gate_at}
 use Rattle.grid_model.specs.Images.{header_gate}
-use Rattle.disk_trait.specs.Moments.{Always}
+use Rattle.disk_trait.specs.Disk.{Agrees}
+use Rattle.disk_trait.specs.Moments.{After, Always}
 use Rattle.disk_trait.proofs.Moments.{joined, weakened}
 use Rattle.disk_trait.proofs.Ranges.{outside_then}
-use Rattle.file_roots.specs.Roots.{fields_of}
-use Rattle.file_roots.specs.Replacing.{IsOtherOlder, IsReady, root_ranges}
+use Rattle.file_roots.specs.Roots.{whole_of}
+use Rattle.file_roots.specs.Replacing.{IsOneOf, IsOtherOlder, IsReady, Within, area_range, root_ranges}
 use Rattle.file_roots.proofs.Headers.{header_two}
-use Rattle.file_roots.proofs.Stages.{other_stays}
-use Rattle.file_roots.proofs.Exchange.{other_above, closed_ready, while_parts, closing_moments, parts_moments, gate_of_root, header_of_root, area_of_root, after_then, after_sync}
+use Rattle.file_roots.proofs.Stages.{other_stays, other_above, while_parts, ready_again}
+use Rattle.file_roots.proofs.Exchange.{shows_old, old_is_one, one_more, tried_before, tried_now, closed_ready, closing_again, closing_moments, gate_of_root, header_of_root, area_of_root, after_then, after_sync}
 use Rattle.file_roots.proofs.replacing.replace_root.Goals as goal
 
 pub returns-in-Err-clause-old_or_new : goal.returns-in-Err-clause-old_or_new
-returns-in-Err-clause-old_or_new g c = λ h old old_area comes whole.
+returns-in-Err-clause-old_or_new g c = λ h old tried comes may.
     let s = c.args.layout.now.shape in
-    let new = fields_of c.args.root.now in
-    let first = closing_moments s new old old_area c.requires.lawful comes g.D.Disk.moment g.D.Disk.left_since c.args.disk.now c.close_root.new.disk (g.D.Disk.may_leave c.args.disk.now) (header_gate (g.D.Disk.seen c.args.disk.now) (header_page new.number)) (c.in-Err.ensures.moments h) (c.in-Err.ensures.unwritten h) whole in
-    weakened g.D.Disk.moment g.D.Disk.left_since c.args.disk.now c.close_root.new.disk _ _ first (λ i w. inl w)
+    let number = c.args.root.now.number in
+    let header = header_page number in
+    let lawful = c.requires.lawful in
+    let new = whole_of c.args.root.now in
+    let before = g.D.Disk.may_leave c.args.disk.now in
+    let seen = g.D.Disk.seen c.args.disk.now in
+    let gate = header_gate seen header in
+    let mid = c.close_root.new.disk in
+    let first = closing_moments s lawful number old comes tried g.D.Disk.moment g.D.Disk.left_since c.args.disk.now mid before gate (c.in-Err.ensures.moments h) (c.in-Err.ensures.unwritten h) may in
+    weakened g.D.Disk.moment g.D.Disk.left_since c.args.disk.now mid _ _ first (λ i w. inr w)
+
+pub returns-in-Err-clause-again : goal.returns-in-Err-clause-again
+returns-in-Err-clause-again g c = λ h old tried comes may.
+    let s = c.args.layout.now.shape in
+    let number = c.args.root.now.number in
+    let header = header_page number in
+    let lawful = c.requires.lawful in
+    let new = whole_of c.args.root.now in
+    let before = g.D.Disk.may_leave c.args.disk.now in
+    let seen = g.D.Disk.seen c.args.disk.now in
+    let gate = header_gate seen header in
+    let mid = c.close_root.new.disk in
+    let then = header_gate (g.D.Disk.seen mid) header in
+    let told = c.in-Err.ensures.honest ∙ h in
+    let all = c.in-Err.ensures.moments h in
+    let from : (i : List ℕ) → g.D.Disk.may_leave mid i → After (Agrees (header_gate_at header) 1) before i = λ i now. all.each i (g.met.D.Disk.counts_now mid (g.D.Disk.moment c.args.disk.now) i told all.later now) in
+    let same : (i : List ℕ) → g.D.Disk.may_leave mid i → gate ≢ 1 → before i × (then ≡ gate) = λ i now shut.
+    let left = c.in-Err.ensures.unwritten h shut in
+    (left.each i (g.met.D.Disk.counts_now mid (g.D.Disk.moment c.args.disk.now) i told left.later now), ap (λ x. header_gate x header) (c.in-Err.ensures.unchanged h shut)) in
+    λ i now. tried_before s number then old new tried i (closing_again s lawful number old comes tried before gate then may i (from i now) (same i now))
 
 pub returns-in-Err-clause-elsewhere : goal.returns-in-Err-clause-elsewhere
 returns-in-Err-clause-elsewhere g c = λ h.
@@ -26,17 +54,45 @@ pub returns-in-Err-clause-outside : goal.returns-in-Err-clause-outside
 returns-in-Err-clause-outside g c = λ h. gate_of_root c.args.layout.now.shape (header_page c.args.root.now.number) _ _ (c.in-Err.ensures.outside h)
 
 pub returns-in-Err-write_parts-clause-old_or_new : goal.returns-in-Err-write_parts-clause-old_or_new
-returns-in-Err-write_parts-clause-old_or_new g c = λ h old old_area comes whole.
+returns-in-Err-write_parts-clause-old_or_new g c = λ h old tried comes may.
     let s = c.args.layout.now.shape in
-    let new = fields_of c.args.root.now in
-    let told = c.in-Ok.ensures.honest ∙ h in
+    let number = c.args.root.now.number in
+    let header = header_page number in
+    let lawful = c.requires.lawful in
+    let new = whole_of c.args.root.now in
+    let before = g.D.Disk.may_leave c.args.disk.now in
     let seen = g.D.Disk.seen c.args.disk.now in
+    let gate = header_gate seen header in
     let mid = c.close_root.new.disk in
-    let first = closing_moments s new old old_area c.requires.lawful comes g.D.Disk.moment g.D.Disk.left_since c.args.disk.now mid (g.D.Disk.may_leave c.args.disk.now) (header_gate seen (header_page new.number)) (c.in-Ok.ensures.moments h) (c.in-Ok.ensures.unwritten h) whole in
-    let shut = closed_ready s new old old_area c.requires.lawful comes seen (g.D.Disk.seen mid) (whole seen (g.met.D.Disk.seen_now c.args.disk.now h)).whole (c.in-Ok.ensures.outside h) (c.in-Ok.ensures.closed h) in
-    let ready : Always (g.D.Disk.may_leave mid) (IsReady s (header_page new.number) old old_area) = λ i now. subst (IsReady s (header_page new.number) old old_area) (sym (c.in-Ok.ensures.durable h i now)) shut in
-    let second = parts_moments s new old old_area c.requires.lawful comes g.D.Disk.moment g.D.Disk.left_since mid c.write_parts.new.disk (g.D.Disk.may_leave mid) (c.in-Err-write_parts.ensures.moments told) ready in
-    joined g.D.Disk.moment g.D.Disk.left_since c.args.disk.now mid c.write_parts.new.disk _ _ _ first second (λ i w. inl w) (λ i w. inl w)
+    let first = closing_moments s lawful number old comes tried g.D.Disk.moment g.D.Disk.left_since c.args.disk.now mid before gate (c.in-Ok.ensures.moments h) (c.in-Ok.ensures.unwritten h) may in
+    let told = c.in-Ok.ensures.honest ∙ h in
+    let shut = closed_ready s lawful number old comes tried gate seen (g.D.Disk.seen mid) (may seen (g.met.D.Disk.seen_now c.args.disk.now h)) (c.in-Ok.ensures.outside h) (c.in-Ok.ensures.closed h) in
+    let ready : Always (g.D.Disk.may_leave mid) (IsReady s number old) = λ i now. subst (IsReady s number old) (sym (c.in-Ok.ensures.durable h i now)) shut in
+    let second = c.in-Err-write_parts.ensures.moments told in
+    let still : (i : List ℕ) → After (Within (area_range s header)) (g.D.Disk.may_leave mid) i → IsReady s number old i = λ i from. while_parts s number lawful old comes from.0 i (ready from.0 from.1) from.2 in
+    let both = joined g.D.Disk.moment g.D.Disk.left_since c.args.disk.now mid c.write_parts.new.disk _ _ (IsOneOf s old (new ∷ tried)) first second (λ i w. inr w) (λ i from. inr (old_is_one s old tried i (shows_old s number old i comes (still i from)))) in
+    both
+
+pub returns-in-Err-write_parts-clause-again : goal.returns-in-Err-write_parts-clause-again
+returns-in-Err-write_parts-clause-again g c = λ h old tried comes may.
+    let s = c.args.layout.now.shape in
+    let number = c.args.root.now.number in
+    let header = header_page number in
+    let lawful = c.requires.lawful in
+    let new = whole_of c.args.root.now in
+    let before = g.D.Disk.may_leave c.args.disk.now in
+    let seen = g.D.Disk.seen c.args.disk.now in
+    let gate = header_gate seen header in
+    let mid = c.close_root.new.disk in
+    let told = c.in-Ok.ensures.honest ∙ h in
+    let shut = closed_ready s lawful number old comes tried gate seen (g.D.Disk.seen mid) (may seen (g.met.D.Disk.seen_now c.args.disk.now h)) (c.in-Ok.ensures.outside h) (c.in-Ok.ensures.closed h) in
+    let ready : Always (g.D.Disk.may_leave mid) (IsReady s number old) = λ i now. subst (IsReady s number old) (sym (c.in-Ok.ensures.durable h i now)) shut in
+    let second = c.in-Err-write_parts.ensures.moments told in
+    let still : (i : List ℕ) → After (Within (area_range s header)) (g.D.Disk.may_leave mid) i → IsReady s number old i = λ i from. while_parts s number lawful old comes from.0 i (ready from.0 from.1) from.2 in
+    let end = c.write_parts.new.disk in
+    let kept = c.in-Err-write_parts.ensures.honest ∙ told in
+    let written : Always (g.D.Disk.may_leave end) (IsReady s number old) = λ i now. still i (c.in-Err-write_parts.ensures.crash told i now) in
+    ready_again s number lawful old comes (new ∷ tried) (g.D.Disk.may_leave end) (g.D.Disk.seen end) (g.met.D.Disk.seen_now end kept) written
 
 pub returns-in-Err-write_parts-clause-elsewhere : goal.returns-in-Err-write_parts-clause-elsewhere
 returns-in-Err-write_parts-clause-elsewhere g c = λ h.
@@ -56,36 +112,71 @@ returns-in-Err-write_parts-clause-outside g c = λ h.
     outside_then _ _ (g.D.Disk.seen c.close_root.new.disk) _ (gate_of_root s header _ _ (c.in-Ok.ensures.outside h)) (area_of_root s header _ _ (c.in-Err-write_parts.ensures.outside (c.in-Ok.ensures.honest ∙ h)))
 
 pub returns-in-Ok-finish_root-clause-old_or_new : goal.returns-in-Ok-finish_root-clause-old_or_new
-returns-in-Ok-finish_root-clause-old_or_new g c = λ h old old_area comes whole.
+returns-in-Ok-finish_root-clause-old_or_new g c = λ h old tried comes may.
     let s = c.args.layout.now.shape in
-    let new = fields_of c.args.root.now in
-    let told = c.in-Ok.ensures.honest ∙ h in
-    let still = c.in-Ok-write_parts.ensures.honest ∙ told in
+    let number = c.args.root.now.number in
+    let header = header_page number in
+    let lawful = c.requires.lawful in
+    let new = whole_of c.args.root.now in
+    let before = g.D.Disk.may_leave c.args.disk.now in
     let seen = g.D.Disk.seen c.args.disk.now in
+    let gate = header_gate seen header in
     let mid = c.close_root.new.disk in
-    let first = closing_moments s new old old_area c.requires.lawful comes g.D.Disk.moment g.D.Disk.left_since c.args.disk.now mid (g.D.Disk.may_leave c.args.disk.now) (header_gate seen (header_page new.number)) (c.in-Ok.ensures.moments h) (c.in-Ok.ensures.unwritten h) whole in
-    let shut = closed_ready s new old old_area c.requires.lawful comes seen (g.D.Disk.seen mid) (whole seen (g.met.D.Disk.seen_now c.args.disk.now h)).whole (c.in-Ok.ensures.outside h) (c.in-Ok.ensures.closed h) in
-    let ready : Always (g.D.Disk.may_leave mid) (IsReady s (header_page new.number) old old_area) = λ i now. subst (IsReady s (header_page new.number) old old_area) (sym (c.in-Ok.ensures.durable h i now)) shut in
-    let second = parts_moments s new old old_area c.requires.lawful comes g.D.Disk.moment g.D.Disk.left_since mid c.write_parts.new.disk (g.D.Disk.may_leave mid) (c.in-Ok-write_parts.ensures.moments told) ready in
-    let written : Always (g.D.Disk.may_leave c.write_parts.new.disk) (IsReady s (header_page new.number) old old_area) = λ i now. while_parts s new old old_area c.requires.lawful comes (g.D.Disk.may_leave mid) ready i (c.in-Ok-write_parts.ensures.crash told i now) in
-    let both = joined g.D.Disk.moment g.D.Disk.left_since c.args.disk.now mid c.write_parts.new.disk _ _ _ first second (λ i w. w) (λ i w. w) in
-    joined g.D.Disk.moment g.D.Disk.left_since c.args.disk.now c.write_parts.new.disk c.finish_root.new.disk _ _ _ both (c.in-Ok-finish_root.ensures.old_or_new still old old_area comes (c.in-Ok-write_parts.ensures.written told) written) (λ i w. inl w) (λ i w. w)
+    let first = closing_moments s lawful number old comes tried g.D.Disk.moment g.D.Disk.left_since c.args.disk.now mid before gate (c.in-Ok.ensures.moments h) (c.in-Ok.ensures.unwritten h) may in
+    let told = c.in-Ok.ensures.honest ∙ h in
+    let shut = closed_ready s lawful number old comes tried gate seen (g.D.Disk.seen mid) (may seen (g.met.D.Disk.seen_now c.args.disk.now h)) (c.in-Ok.ensures.outside h) (c.in-Ok.ensures.closed h) in
+    let ready : Always (g.D.Disk.may_leave mid) (IsReady s number old) = λ i now. subst (IsReady s number old) (sym (c.in-Ok.ensures.durable h i now)) shut in
+    let second = c.in-Ok-write_parts.ensures.moments told in
+    let still : (i : List ℕ) → After (Within (area_range s header)) (g.D.Disk.may_leave mid) i → IsReady s number old i = λ i from. while_parts s number lawful old comes from.0 i (ready from.0 from.1) from.2 in
+    let end = c.write_parts.new.disk in
+    let kept = c.in-Ok-write_parts.ensures.honest ∙ told in
+    let written : Always (g.D.Disk.may_leave end) (IsReady s number old) = λ i now. still i (c.in-Ok-write_parts.ensures.crash told i now) in
+    let both = joined g.D.Disk.moment g.D.Disk.left_since c.args.disk.now mid end _ _ (IsOneOf s old (new ∷ tried)) first second (λ i w. inr w) (λ i from. inr (old_is_one s old tried i (shows_old s number old i comes (still i from)))) in
+    joined g.D.Disk.moment g.D.Disk.left_since c.args.disk.now end c.finish_root.new.disk _ _ _ both (c.in-Ok-finish_root.ensures.old_or_new kept old comes (c.in-Ok-write_parts.ensures.written told) written) (λ i w. w) (λ i w. one_more s old new tried i w)
 
 pub returns-in-Err-finish_root-clause-old_or_new : goal.returns-in-Err-finish_root-clause-old_or_new
-returns-in-Err-finish_root-clause-old_or_new g c = λ h old old_area comes whole.
+returns-in-Err-finish_root-clause-old_or_new g c = λ h old tried comes may.
     let s = c.args.layout.now.shape in
-    let new = fields_of c.args.root.now in
-    let told = c.in-Ok.ensures.honest ∙ h in
-    let still = c.in-Ok-write_parts.ensures.honest ∙ told in
+    let number = c.args.root.now.number in
+    let header = header_page number in
+    let lawful = c.requires.lawful in
+    let new = whole_of c.args.root.now in
+    let before = g.D.Disk.may_leave c.args.disk.now in
     let seen = g.D.Disk.seen c.args.disk.now in
+    let gate = header_gate seen header in
     let mid = c.close_root.new.disk in
-    let first = closing_moments s new old old_area c.requires.lawful comes g.D.Disk.moment g.D.Disk.left_since c.args.disk.now mid (g.D.Disk.may_leave c.args.disk.now) (header_gate seen (header_page new.number)) (c.in-Ok.ensures.moments h) (c.in-Ok.ensures.unwritten h) whole in
-    let shut = closed_ready s new old old_area c.requires.lawful comes seen (g.D.Disk.seen mid) (whole seen (g.met.D.Disk.seen_now c.args.disk.now h)).whole (c.in-Ok.ensures.outside h) (c.in-Ok.ensures.closed h) in
-    let ready : Always (g.D.Disk.may_leave mid) (IsReady s (header_page new.number) old old_area) = λ i now. subst (IsReady s (header_page new.number) old old_area) (sym (c.in-Ok.ensures.durable h i now)) shut in
-    let second = parts_moments s new old old_area c.requires.lawful comes g.D.Disk.moment g.D.Disk.left_since mid c.write_parts.new.disk (g.D.Disk.may_leave mid) (c.in-Ok-write_parts.ensures.moments told) ready in
-    let written : Always (g.D.Disk.may_leave c.write_parts.new.disk) (IsReady s (header_page new.number) old old_area) = λ i now. while_parts s new old old_area c.requires.lawful comes (g.D.Disk.may_leave mid) ready i (c.in-Ok-write_parts.ensures.crash told i now) in
-    let both = joined g.D.Disk.moment g.D.Disk.left_since c.args.disk.now mid c.write_parts.new.disk _ _ _ first second (λ i w. w) (λ i w. w) in
-    joined g.D.Disk.moment g.D.Disk.left_since c.args.disk.now c.write_parts.new.disk c.finish_root.new.disk _ _ _ both (c.in-Err-finish_root.ensures.old_or_new still old old_area comes (c.in-Ok-write_parts.ensures.written told) written) (λ i w. inl w) (λ i w. w)
+    let first = closing_moments s lawful number old comes tried g.D.Disk.moment g.D.Disk.left_since c.args.disk.now mid before gate (c.in-Ok.ensures.moments h) (c.in-Ok.ensures.unwritten h) may in
+    let told = c.in-Ok.ensures.honest ∙ h in
+    let shut = closed_ready s lawful number old comes tried gate seen (g.D.Disk.seen mid) (may seen (g.met.D.Disk.seen_now c.args.disk.now h)) (c.in-Ok.ensures.outside h) (c.in-Ok.ensures.closed h) in
+    let ready : Always (g.D.Disk.may_leave mid) (IsReady s number old) = λ i now. subst (IsReady s number old) (sym (c.in-Ok.ensures.durable h i now)) shut in
+    let second = c.in-Ok-write_parts.ensures.moments told in
+    let still : (i : List ℕ) → After (Within (area_range s header)) (g.D.Disk.may_leave mid) i → IsReady s number old i = λ i from. while_parts s number lawful old comes from.0 i (ready from.0 from.1) from.2 in
+    let end = c.write_parts.new.disk in
+    let kept = c.in-Ok-write_parts.ensures.honest ∙ told in
+    let written : Always (g.D.Disk.may_leave end) (IsReady s number old) = λ i now. still i (c.in-Ok-write_parts.ensures.crash told i now) in
+    let both = joined g.D.Disk.moment g.D.Disk.left_since c.args.disk.now mid end _ _ (IsOneOf s old (new ∷ tried)) first second (λ i w. inr w) (λ i from. inr (old_is_one s old tried i (shows_old s number old i comes (still i from)))) in
+    joined g.D.Disk.moment g.D.Disk.left_since c.args.disk.now end c.finish_root.new.disk _ _ _ both (c.in-Err-finish_root.ensures.old_or_new kept old comes (c.in-Ok-write_parts.ensures.written told) written) (λ i w. w) (λ i w. one_more s old new tried i w)
+
+pub returns-in-Err-finish_root-clause-again : goal.returns-in-Err-finish_root-clause-again
+returns-in-Err-finish_root-clause-again g c = λ h old tried comes may.
+    let s = c.args.layout.now.shape in
+    let number = c.args.root.now.number in
+    let header = header_page number in
+    let lawful = c.requires.lawful in
+    let new = whole_of c.args.root.now in
+    let before = g.D.Disk.may_leave c.args.disk.now in
+    let seen = g.D.Disk.seen c.args.disk.now in
+    let gate = header_gate seen header in
+    let mid = c.close_root.new.disk in
+    let told = c.in-Ok.ensures.honest ∙ h in
+    let shut = closed_ready s lawful number old comes tried gate seen (g.D.Disk.seen mid) (may seen (g.met.D.Disk.seen_now c.args.disk.now h)) (c.in-Ok.ensures.outside h) (c.in-Ok.ensures.closed h) in
+    let ready : Always (g.D.Disk.may_leave mid) (IsReady s number old) = λ i now. subst (IsReady s number old) (sym (c.in-Ok.ensures.durable h i now)) shut in
+    let second = c.in-Ok-write_parts.ensures.moments told in
+    let still : (i : List ℕ) → After (Within (area_range s header)) (g.D.Disk.may_leave mid) i → IsReady s number old i = λ i from. while_parts s number lawful old comes from.0 i (ready from.0 from.1) from.2 in
+    let end = c.write_parts.new.disk in
+    let kept = c.in-Ok-write_parts.ensures.honest ∙ told in
+    let written : Always (g.D.Disk.may_leave end) (IsReady s number old) = λ i now. still i (c.in-Ok-write_parts.ensures.crash told i now) in
+    λ i now. tried_now s number _ old new tried i (c.in-Err-finish_root.ensures.again kept old comes (c.in-Ok-write_parts.ensures.written told) written i now)
 
 pub returns-in-Ok-finish_root-clause-replaced : goal.returns-in-Ok-finish_root-clause-replaced
 returns-in-Ok-finish_root-clause-replaced g c = λ h other.
