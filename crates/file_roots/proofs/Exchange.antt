@@ -1,5 +1,5 @@
 -- What an image shows of its roots while one of them is closed and written anew, also after attempts that failed.
-use Rattle.std.proofs.Common.{◌≡◌, ◌≢◌, ◌<◌, ◌≤◌, ◌⊎◌, inl, inr, ◌+◌, ◌*◌, ℕ, List, [], ◌∷◌, IsTrue, sym, ap, subst, ◌∙◌, arith}
+use Rattle.std.proofs.Common.{◌≡◌, ◌≢◌, ◌<◌, inl, inr, ◌+◌, ℕ, List, [], ◌∷◌, IsTrue, sym, ap, subst, ◌∙◌, arith}
 use Rattle.std.specs.Prelude.{Option, Some, None, Result, Ok, Err, OnErr}
 use Rattle.std.proofs.lemmas.Bool.{cases_eq}
 use Rattle.grid_types.specs.declared.shape.Shape.{Shape}
@@ -14,7 +14,7 @@ use Rattle.disk_trait.proofs.Ranges.{outside_one, outside_more, outside_then}
 use Rattle.file_roots.specs.Roots.{WholeRoot}
 use Rattle.file_roots.specs.Replacing.{IsWhole, ShowsOld, IsOneOf, ComesNext, IsOtherOlder, KeepsOld, IsReady, HasFields, HasOlder, HasTried, HasOneTried, IsReplaceable, NextMayBeWritten, OldOrTriedIsNewest, KeptIsOlder, Within, area_range, header_ranges, root_ranges}
 use Rattle.file_roots.proofs.Headers.{header_two, fields_stay, area_above}
-use Rattle.file_roots.proofs.Stages.{other_header, next_header, kept_beside}
+use Rattle.file_roots.proofs.Stages.{other_header, kept_beside}
 
 module _ (s : Shape) where
   -- fields under an open gate
