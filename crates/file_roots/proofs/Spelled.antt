@@ -24,9 +24,6 @@ pub area_page_scale : (root : ℕ) (a : Area) (i : ℕ) → i < 8 → area_page 
 area_page_scale root a i lt =
     ap (λ t. cond t (scale_page root i (half_of_scale (i % 2) (scale_of a.scales (i / 2)))) (cond (eqb i 8) (list_page root i a.parts) (bucket_table_page root i (take 1000 (drop (1000 * (i - 9)) a.table))))) (lt-ltb i 8 lt)
 
-pub area_page_list : (root : ℕ) (a : Area) → area_page root a 8 ≡ list_page root 8 a.parts
-area_page_list root a = refl
-
 pub area_page_table : (root : ℕ) (a : Area) (i : ℕ) → 9 ≤ i → area_page root a i ≡ bucket_table_page root i (take 1000 (drop (1000 * (i - 9)) a.table))
 area_page_table root a i le =
     ap (λ t. cond t (scale_page root i (half_of_scale (i % 2) (scale_of a.scales (i / 2)))) (cond (eqb i 8) (list_page root i a.parts) (bucket_table_page root i (take 1000 (drop (1000 * (i - 9)) a.table))))) (le-ltb i 8 (omega (arith, le)))

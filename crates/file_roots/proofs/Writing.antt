@@ -9,7 +9,6 @@ use Rattle.grid_types.proofs.Places.{within-limits}
 use Rattle.grid_model.specs.Scales.{scale_of}
 use Rattle.linear_scales.specs.Limited.{scales_of}
 use Rattle.file_roots.specs.declared.root.Root.{Root}
-use Rattle.file_roots.specs.Replacing.{IsWhole}
 use Rattle.file_roots.specs.Roots.{fields_of, area_of, IsRoot}
 
 -- how long the lists of a root are
@@ -38,7 +37,3 @@ module _ {K : ℕ} (s : Shape) (root : Root K) (lawful : IsTrue (is_shape s)) (a
         parts = omega (arith, is.fields.parts, is.fields.few_cells, w.few_cells);
         numbers = omega (arith, is.area.numbers, w.few_pages);
       }
-
--- a root that is the newest with its whole table area has a spelling
-pub has_spelling : {K : ℕ} (s : Shape) (root : Root K) (image : List ℕ) → IsWhole s (fields_of root) (area_of root) image → IsRoot s root
-has_spelling s root image whole = record { fields = whole.newest.opens.lawful; area = whole.area.lawful }

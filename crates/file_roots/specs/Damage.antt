@@ -1,14 +1,14 @@
 -- Which page of a file is damaged as far as its roots go.
-use Rattle.std.specs.Prelude.{◌≡◌, ◌≢◌, ◌⊎◌, ◌↔◌, ◌<◌, ◌≤◌, ◌+◌, ◌-◌, ◌*◌, ◌++◌, ℕ, List, length, min, drop, slice_index, All, IsTrue}
+use Rattle.std.specs.Prelude.{◌≡◌, ◌≢◌, ◌⊎◌, ◌↔◌, ◌<◌, ◌≤◌, ◌+◌, ◌-◌, ◌*◌, ◌++◌, ℕ, List, length, min, slice_index, All, IsTrue}
 use Rattle.grid_types.specs.declared.shape.Shape.{Shape}
 use Rattle.grid_types.specs.Pages.{page_of}
 use Rattle.grid_types.specs.Shapes.{is_shape, area_pages, header_page, table_page}
-use Rattle.page_fields.specs.Fields.{number}
 use Rattle.grid_model.specs.Lists.{AreDistinct}
 use Rattle.grid_model.specs.Scales.{is_scale, scale_of}
 use Rattle.grid_model.specs.Spellings.{RootFields}
 use Rattle.grid_model.specs.Lawful.{IsRootOn, Area, pages_named}
 use Rattle.grid_model.specs.Images.{header_gate, IsOpenOver, IsNewest, HasArea, area_page}
+use Rattle.file_roots.specs.Headers.{number_of}
 
 -- the first n pages of a root's table area say this of an area: as many of the root's boundaries, parts and numbers as stand on them; the boundaries of each scale ascend, and each data page is one and is named once
 pub record SpellsUpTo (s : Shape) (image : List ℕ) (r : RootFields) (n : ℕ) (a : Area) : Type 0 where
@@ -26,28 +26,24 @@ pub record HasAreaUpTo (s : Shape) (image : List ℕ) (r : RootFields) (n : ℕ)
   pub spelled : SpellsUpTo s image r n a
   pub buckets : area_pages s ≤ n → length (pages_named a.table) ≡ r.buckets
 
--- a page of a root's table area is the first that is not spelled: those before it are, and with it they are not
+-- page i of a root's table area is the first that is not spelled: those before it are, and with it they are not
 pub record IsBadPart (s : Shape) (image : List ℕ) (r : RootFields) (i : ℕ) : Type 0 where
   pub inside : i < area_pages s
   pub before : Area
   pub spelled : HasAreaUpTo s image r i before
   pub no_more : (a : Area) → HasAreaUpTo s image r (i + 1) a → ⊥
 
--- no gate is open: header page 0 is named
+-- no gate is open; the page that is named is header page 0
 pub record IsNoneOpen (image : List ℕ) (page : ℕ) : Type 0 where
   pub zeroth : header_gate image 0 ≢ 1
   pub first : header_gate image 1 ≢ 1
   pub page_is : page ≡ 0
 
--- the number that stands where a header page has a root's
-abbrev pub number_on : List ℕ → ℕ → ℕ
-number_on image header = number 8 (drop 72 (page_of header image))
-
--- both gates are open, over one root number: header page 1 is named
+-- both gates are open, over one root number; the page that is named is header page 1
 pub record AreAlike (image : List ℕ) (page : ℕ) : Type 0 where
   pub zeroth : header_gate image 0 ≡ 1
   pub first : header_gate image 1 ≡ 1
-  pub numbers : number_on image 0 ≡ number_on image 1
+  pub numbers : number_of (page_of 0 image) ≡ number_of (page_of 1 image)
   pub page_is : page ≡ 1
 
 -- a header page is open, and spells no lawful root
@@ -55,14 +51,14 @@ pub record IsMisspelt (s : Shape) (image : List ℕ) (header : ℕ) : Type 0 whe
   pub gate : header_gate image header ≡ 1
   pub none : (r : RootFields) → IsOpenOver s image header r → ⊥
 
--- it is the first such header page, and the root numbers are not alike
+-- the page that is named is the first header page that is open and spells no lawful root; the gates are not open over one root number
 pub record IsFirstMisspelt (s : Shape) (image : List ℕ) (page : ℕ) : Type 0 where
   pub two : page < 2
   pub misspelt : IsMisspelt s image page
   pub before : (header : ℕ) → header < page → IsMisspelt s image header → ⊥
   pub unlike : AreAlike image 1 → ⊥
 
--- the newest root has a table area of which a page is not spelled: the first such page is named
+-- the page that is named is the first of a root's table area that is not spelled
 pub record HasBadPart (s : Shape) (image : List ℕ) (r : RootFields) (page : ℕ) : Type 0 where
   pub part : ℕ
   pub bad : IsBadPart s image r part

@@ -95,7 +95,7 @@ area_range s area = (table_page s area 0 * 4096, area_pages s * 4096)
 abbrev pub root_ranges : Shape → ℕ → List (ℕ × ℕ)
 root_ranges s header = area_range s header ∷ header_ranges header
 
--- two images agree but for a range, which is its start and its length
+-- two images differ in no byte outside of a range; a range is its start and its length
 abbrev pub Within : ℕ × ℕ → List ℕ → List ℕ → Type 0
 Within range old new = Agrees range.0 range.1 old new
 

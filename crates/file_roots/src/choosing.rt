@@ -1,24 +1,23 @@
 //! Which of the two header pages has the newest root.
-ghost use Rattle.std.specs.Prelude.{◌≡◌, ◌≢◌, ◌<◌, ◌↔◌, ℕ, List, length, drop, slice_index, IsTrue, IfOk, IfErr, IsErrOf, IfSome, IfNone};
+ghost use Rattle.std.specs.Prelude.{◌≡◌, ◌≢◌, ◌<◌, ◌↔◌, ℕ, List, IsTrue, IfOk, IfErr, IsErrOf, IfSome, IfNone};
 ghost use Rattle.grid_types.specs.declared.shape.Shape.{Shape};
 ghost use Rattle.grid_types.specs.declared.refusal.Refusal.TheVariants.{Damaged};
 ghost use Rattle.grid_types.specs.Pages.{page_of};
 ghost use Rattle.grid_types.specs.Shapes.{is_shape, header_page};
-ghost use Rattle.page_fields.specs.Fields.{number};
 ghost use Rattle.grid_model.specs.Lawful.{IsRootOn};
 ghost use Rattle.grid_model.specs.Spellings as model;
 ghost use Rattle.grid_model.specs.Images.{header_gate, IsNewest};
 ghost use Rattle.root_pages.specs.Headers.{SpellsRoot};
 ghost use Rattle.root_pages.specs.Fields as pages;
 ghost use Rattle.file_roots.specs.Damage.{IsRootDamage};
-ghost use Rattle.file_roots.specs.Headers.{Says};
+ghost use Rattle.file_roots.specs.Headers.{Says, gate_of, number_of};
 
 use grid_types::{Refusal, Shape};
 use root_pages::{RootFields, decode_fields, is_open, root_number};
 
 /// Whether both header pages are open, over one root number.
 fn are_alike(zeroth: &[u8; 4096], first: &[u8; 4096]) -> bool
-    ensures { IsTrue result ↔ ((slice_index zeroth.now 64 ≡ 1) × ((slice_index first.now 64 ≡ 1) × (number 8 (drop 72 zeroth.now) ≡ number 8 (drop 72 first.now)))) }
+    ensures { IsTrue result ↔ ((gate_of zeroth.now ≡ 1) × ((gate_of first.now ≡ 1) × (number_of zeroth.now ≡ number_of first.now))) }
 {
     is_open(zeroth) && is_open(first) && root_number(zeroth) == root_number(first)
 }
@@ -33,7 +32,7 @@ fn open_root<const K: usize>(
     requires attributes { shape.now.k ≡ K }
     requires two { header < 2 }
     ensures said { IfOk result (Says shape.now header page.now) }
-    ensures damaged { IfErr result (λ e. (e ≡ Damaged header) × ((slice_index page.now 64 ≡ 1) × ((r : model.RootFields) → SpellsRoot shape.now header page.now r → ⊥))) }
+    ensures damaged { IfErr result (λ e. (e ≡ Damaged header) × ((gate_of page.now ≡ 1) × ((r : model.RootFields) → SpellsRoot shape.now header page.now r → ⊥))) }
 {
     if !is_open(page) {
         return Ok(None);

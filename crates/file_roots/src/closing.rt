@@ -1,5 +1,5 @@
 //! A header page is closed before another root is written on it.
-ghost use Rattle.std.specs.Prelude.{◌≡◌, ◌≢◌, ◌⊎◌, ◌≤◌, ◌+◌, ◌*◌, ◌%◌, List, ℕ, IsTrue, OnOk, IfErr, IsErrOf, slice_index};
+ghost use Rattle.std.specs.Prelude.{◌≡◌, ◌≢◌, ◌⊎◌, ◌≤◌, ◌+◌, ◌*◌, ◌%◌, IsTrue, OnOk, IfErr, IsErrOf, slice_index};
 ghost use Rattle.grid_types.specs.declared.refusal.Refusal.TheVariants.{ReadFault, WriteFault};
 ghost use Rattle.grid_types.specs.Shapes.{is_shape, file_pages, header_page, header_gate_at};
 ghost use Rattle.grid_model.specs.Images.{header_gate};
@@ -7,6 +7,7 @@ ghost use Rattle.disk_trait.specs.Causes.{HasCause, Rose};
 ghost use Rattle.disk_trait.specs.Disk.{Only, Agrees};
 ghost use Rattle.disk_trait.specs.Moments.{After, LeavesOnly};
 
+use crate::root::GATE;
 use disk_trait::{Disk, DiskFailed, Steps, write_through};
 use grid_types::{Layout, Refusal};
 use std::sync::ledger::Ledger;
@@ -62,7 +63,7 @@ pub fn close_root<D: Disk, L: Ledger>(
         Ok(()) => {}
         Err(DiskFailed) => return Err(Refusal::ReadFault),
     }
-    match shut(disk, header * 4096 + 64, page[64]) {
+    match shut(disk, header * 4096 + GATE, page[GATE as usize]) {
         Ok(()) => Ok(()),
         Err(DiskFailed) => Err(Refusal::WriteFault),
     }

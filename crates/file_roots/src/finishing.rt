@@ -1,6 +1,6 @@
 //! A root is finished: its fields are written, and then its gate is opened.
-ghost use Rattle.std.specs.Prelude.{◌≡◌, ◌<◌, ◌≤◌, ◌+◌, ◌*◌, ◌%◌, ◌^◌, List, [], ◌∷◌, ℕ, Option, IsTrue, OnOk, OnErr, length};
-ghost use Rattle.grid_types.specs.Shapes.{is_shape, file_pages, header_page, header_gate_at, root_fields_at};
+ghost use Rattle.std.specs.Prelude.{◌≡◌, ◌<◌, ◌≤◌, ◌+◌, ◌*◌, ◌%◌, [], ◌∷◌, Option, IsTrue, OnOk, OnErr};
+ghost use Rattle.grid_types.specs.Shapes.{is_shape, file_pages, header_page, root_fields_at};
 ghost use Rattle.grid_model.specs.Spellings.{root_bytes};
 ghost use Rattle.grid_model.specs.Images.{header_gate, root_fields, HasArea};
 ghost use Rattle.disk_trait.specs.Causes.{HasCause};
@@ -10,13 +10,13 @@ ghost use Rattle.file_roots.specs.Roots.{WholeRoot, fields_of, area_of, whole_of
 ghost use Rattle.file_roots.specs.Replacing.{IsWhole, IsOneOf, ComesNext, IsOtherOlder, IsReady, IsReplaceable, header_ranges};
 
 use crate::Root;
-use crate::root::fields;
+use crate::root::{FIELDS, GATE, fields};
 use disk_trait::{Disk, DiskFailed, write_through};
 use grid_types::Layout;
 use root_pages::encode_fields;
 
 /// Writes the fields of a root, and syncs.
-fn write_fields<D: Disk, const K: usize>(
+fn write_fields<const K: usize, D: Disk>(
     disk: &mut D,
     layout: &Layout,
     root: &Root<K>,
@@ -37,13 +37,13 @@ fn write_fields<D: Disk, const K: usize>(
 {
     let mut bytes = [0; 56];
     encode_fields(&fields(root), &mut bytes);
-    write_through(disk, root.number % 2 * 4096 + 72, &bytes)
+    write_through(disk, root.number % 2 * 4096 + FIELDS, &bytes)
 }
 
 /// Writes the fields of a root, syncs, opens its gate, and syncs. Its table area was written before, and its header page
 /// was closed. At each moment of it the old root or this one is the newest, with its whole table area; in a new file there
 /// is no root, or this one. After a failure it may be tried again.
-pub fn finish_root<D: Disk, const K: usize>(
+pub fn finish_root<const K: usize, D: Disk>(
     disk: &mut D,
     layout: &Layout,
     root: &Root<K>,
@@ -75,5 +75,5 @@ pub fn finish_root<D: Disk, const K: usize>(
         Ok(()) => {}
         Err(DiskFailed) => return Err(DiskFailed),
     }
-    write_through(disk, root.number % 2 * 4096 + 64, &[1])
+    write_through(disk, root.number % 2 * 4096 + GATE, &[1])
 }

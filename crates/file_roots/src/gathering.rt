@@ -1,10 +1,10 @@
 //! The entries of the pages of a table area, gathered as long as they are lawful.
-ghost use Rattle.std.specs.Prelude.{◌≡◌, ◌<◌, ◌≤◌, ◌+◌, ◌-◌, ◌*◌, ◌/◌, ◌%◌, ◌++◌, ◌∷◌, [], ℕ, Bool, true, false, List, length, min, slice_index, slice_index_or, slice_set, All, IsTrue, IfOk};
+ghost use Rattle.std.specs.Prelude.{◌≡◌, ◌<◌, ◌≤◌, ◌+◌, ◌-◌, ◌/◌, ◌++◌, ◌∷◌, [], ℕ, false, List, length, slice_index_or, slice_set, All, IsTrue, IfOk};
 ghost use Rattle.grid_types.specs.Shapes.{is_shape, header_page};
-ghost use Rattle.grid_model.specs.Lists.{is_among, AreDistinct};
+ghost use Rattle.grid_model.specs.Lists.{AreDistinct};
 ghost use Rattle.grid_model.specs.Spellings.{RootFields};
 ghost use Rattle.grid_model.specs.Lawful.{IsRootOn};
-ghost use Rattle.grid_model.specs.Scales.{is_scale, scale_of, low, top};
+ghost use Rattle.grid_model.specs.Scales.{is_scale, scale_of};
 ghost use Rattle.linear_scales.specs.Limited.{LimitedScale, scales_of, limits_of};
 ghost use Rattle.file_roots.specs.Gathering.{AreOn, AreMarked, named_by, longer_scale, HasRoom, HasGathered};
 

@@ -1,5 +1,5 @@
 //! The pages of a root's table area.
-ghost use Rattle.std.specs.Prelude.{◌≡◌, ◌<◌, ◌≤◌, ◌+◌, ◌*◌, ◌-◌, ℕ, List, IsTrue, OnOk, length, take, drop};
+ghost use Rattle.std.specs.Prelude.{◌≡◌, ◌<◌, ◌≤◌, ◌+◌, ◌*◌, ◌-◌, ℕ, IsTrue, OnOk, length, take, drop};
 ghost use Rattle.grid_types.specs.Pages.{page_of};
 ghost use Rattle.grid_types.specs.Shapes.{is_shape, area_pages, file_pages, header_page, table_page};
 ghost use Rattle.grid_model.specs.Scales.{scale_of};
@@ -67,7 +67,7 @@ fn encode_part<const K: usize>(root: &Root<K>, i: u32, page: &mut [u8; 4096])
 }
 
 /// Writes page `i` of the table area of the root. It is on the disk after the next sync.
-pub fn write_part<D: Disk, const K: usize>(
+pub fn write_part<const K: usize, D: Disk>(
     disk: &mut D,
     layout: &Layout,
     root: &Root<K>,
@@ -94,7 +94,7 @@ pub fn write_part<D: Disk, const K: usize>(
 }
 
 /// Writes the whole table area of the root. It is on the disk after the next sync.
-pub fn write_parts<D: Disk, const K: usize>(
+pub fn write_parts<const K: usize, D: Disk>(
     disk: &mut D,
     layout: &Layout,
     root: &Root<K>,

@@ -1,5 +1,5 @@
 //! The newest root of a file, from its header page and its table area.
-ghost use Rattle.std.specs.Prelude.{◌≡◌, ◌≢◌, ◌⊎◌, ◌↔◌, ◌<◌, ◌≤◌, ◌+◌, ◌*◌, ℕ, List, length, replicate, IsTrue, IfOk, OnOk, IfErr, IsErrOf};
+ghost use Rattle.std.specs.Prelude.{◌≡◌, ◌⊎◌, ◌↔◌, ◌<◌, ◌≤◌, ◌+◌, ◌*◌, ℕ, List, length, replicate, IsTrue, IfOk, OnOk, IfErr, IsErrOf};
 ghost use Rattle.grid_types.specs.declared.refusal.Refusal.TheVariants.{NoMemory, ReadFault, Damaged};
 ghost use Rattle.grid_types.specs.Shapes.{is_shape, area_pages, file_pages, header_page};
 ghost use Rattle.grid_model.specs.Spellings as model;
@@ -25,7 +25,7 @@ use std::alloc::{AllocError, Global};
 use std::sync::ledger::Ledger;
 
 /// Reads both header pages, and chooses the newest root.
-fn read_fields<D: Disk, L: Ledger, const K: usize>(
+fn read_fields<const K: usize, D: Disk, L: Ledger>(
     disk: &mut D,
     layout: &Layout,
     steps: &mut Steps<L>,
@@ -62,7 +62,7 @@ fn read_fields<D: Disk, L: Ledger, const K: usize>(
 }
 
 /// Reads page `i` of the root's table area, and takes what it says.
-fn read_part<D: Disk, L: Ledger, const K: usize>(
+fn read_part<const K: usize, D: Disk, L: Ledger>(
     disk: &mut D,
     layout: &Layout,
     fields: &RootFields<K>,
@@ -107,7 +107,7 @@ fn read_part<D: Disk, L: Ledger, const K: usize>(
 }
 
 /// Reads the root's table area, page by page.
-fn read_area<D: Disk, L: Ledger, const K: usize>(
+fn read_area<const K: usize, D: Disk, L: Ledger>(
     disk: &mut D,
     layout: &Layout,
     fields: &RootFields<K>,
@@ -148,7 +148,7 @@ fn read_area<D: Disk, L: Ledger, const K: usize>(
 
 /// Reads the newest root: both header pages, and then its table area in order. A page that is not what it has to be is
 /// named, header pages before the table area.
-pub fn read_newest<D: Disk, L: Ledger, const K: usize>(
+pub fn read_newest<const K: usize, D: Disk, L: Ledger>(
     alloc: Global,
     disk: &mut D,
     layout: &Layout,
@@ -177,7 +177,7 @@ pub fn read_newest<D: Disk, L: Ledger, const K: usize>(
     ensures ticks { steps.new ≤ steps.old + (2 + area_pages layout.now.shape) }
     ensures all_ticks { OnOk result (steps.new ≡ steps.old + (2 + area_pages layout.now.shape)) }
 {
-    let fields = match read_fields::<_, _, K>(disk, layout, steps) {
+    let fields = match read_fields::<K, _, _>(disk, layout, steps) {
         Ok(fields) => fields,
         Err(refusal) => return Err(refusal),
     };

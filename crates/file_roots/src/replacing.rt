@@ -1,5 +1,5 @@
 //! A root is written in place of the one before the newest.
-ghost use Rattle.std.specs.Prelude.{◌≡◌, ◌⊎◌, ◌≤◌, ◌+◌, ◌*◌, List, ◌∷◌, ℕ, Option, IsTrue, OnOk, OnErr, IfErr, IsErrOf};
+ghost use Rattle.std.specs.Prelude.{◌≡◌, ◌⊎◌, ◌≤◌, ◌+◌, ◌*◌, List, ◌∷◌, Option, IsTrue, OnOk, OnErr, IfErr, IsErrOf};
 ghost use Rattle.grid_types.specs.declared.refusal.Refusal.TheVariants.{ReadFault, WriteFault};
 ghost use Rattle.grid_types.specs.Shapes.{is_shape, file_pages, header_page};
 ghost use Rattle.grid_model.specs.Images.{header_gate};
@@ -18,7 +18,7 @@ use std::sync::ledger::Ledger;
 /// Closes the header page of a root, writes its table area, and finishes it. At each moment of it the old root, which
 /// stands on the other header page, or this one is the newest, with its whole table area; or one that an earlier attempt
 /// tried to write and failed. In a new file there is no root, or this one. After a failure it may be tried again.
-pub fn replace_root<D: Disk, L: Ledger, const K: usize>(
+pub fn replace_root<const K: usize, D: Disk, L: Ledger>(
     disk: &mut D,
     layout: &Layout,
     root: &Root<K>,

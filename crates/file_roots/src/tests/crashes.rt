@@ -1,4 +1,4 @@
-ghost use Rattle.std.specs.Prelude.{◌≡◌, ◌<◌, ◌≤◌, ◌+◌, ◌*◌, IsTrue, IfOk};
+ghost use Rattle.std.specs.Prelude.{◌≡◌, ◌<◌, ◌≤◌, ◌+◌, ◌*◌, IsTrue};
 ghost use Rattle.grid_types.specs.Shapes.{is_shape, file_pages};
 ghost use Rattle.disk_memory.specs.Memories.{extent_of};
 

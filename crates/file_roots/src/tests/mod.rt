@@ -1,5 +1,5 @@
-ghost use Rattle.std.specs.Prelude.{◌≡◌, ◌<◌, ◌≤◌, ◌+◌, ◌*◌, ◌^◌, IsTrue, IfOk};
-ghost use Rattle.grid_types.specs.Shapes.{is_shape, area_pages, file_pages};
+ghost use Rattle.std.specs.Prelude.{◌≡◌, ◌<◌, ◌≤◌, ◌+◌, ◌*◌, IsTrue, IfOk};
+ghost use Rattle.grid_types.specs.Shapes.{is_shape, file_pages};
 ghost use Rattle.disk_memory.specs.Memories.{extent_of};
 ghost use Rattle.file_roots.specs.Roots.{IsRoot};
 
