@@ -1,5 +1,5 @@
 -- What the pages of a table area spell.
-use Rattle.std.proofs.Common.{◌≡◌, ◌<◌, ◌≤◌, inl, inr, ◌+◌, ◌-◌, ◌*◌, ◌/◌, ◌%◌, ◌++◌, ◌^◌, ℕ, zero, suc, cond, not, eqb, true, List, [], ◌∷◌, length, take, drop, slice_index, IsTrue, codes, lit<, refl, ap, ◌∙◌, subst, arith, length-append}
+use Rattle.std.proofs.Common.{◌≡◌, ◌<◌, ◌≤◌, inl, inr, ◌+◌, ◌-◌, ◌*◌, ◌/◌, ◌%◌, ◌++◌, ◌^◌, ℕ, zero, suc, cond, not, eqb, true, List, [], ◌∷◌, length, take, drop, slice_index, IsTrue, codes, lit<, ap, ◌∙◌, subst, arith, length-append}
 use Rattle.std.specs.Prelude.{min, All}
 use Rattle.std.proofs.lemmas.Bool.{cases_lt, cases_eq, lt-ltb, le-ltb, ne_eqb, eq-eqb}
 use Rattle.std.proofs.lemmas.List.{get_or_past, get_or-append-add, get_or_append_left, length-drop, length-take}

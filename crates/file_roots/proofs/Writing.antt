@@ -1,5 +1,5 @@
 -- What a root that has a spelling may be written with.
-use Rattle.std.proofs.Common.{List, inl, inr, ◌≡◌, ◌≤◌, ℕ, [], map, length, get_or, IsTrue, sym, ap, ◌∙◌, arith}
+use Rattle.std.proofs.Common.{inl, inr, ◌≡◌, ◌≤◌, ℕ, [], map, length, get_or, IsTrue, sym, ap, ◌∙◌, arith}
 use Rattle.std.proofs.lemmas.Bool.{cases_lt}
 use Rattle.std.proofs.lemmas.List.{get_or-map, get_or_past, length-map}
 use Rattle.std.proofs.lemmas.List.Elements.{All-get_or}
@@ -9,7 +9,7 @@ use Rattle.grid_types.proofs.Places.{within-limits}
 use Rattle.grid_model.specs.Scales.{scale_of}
 use Rattle.linear_scales.specs.Limited.{scales_of}
 use Rattle.file_roots.specs.declared.root.Root.{Root}
-use Rattle.file_roots.specs.Roots.{fields_of, area_of, IsRoot}
+use Rattle.file_roots.specs.Roots.{IsRoot}
 
 -- how long the lists of a root are
 pub record HasLengths (K : ℕ) (root : Root K) : Type 0 where

@@ -3,6 +3,7 @@ use Rattle.std.specs.Prelude.{◌≡◌, ◌≢◌, ◌⊎◌, ◌<◌, ◌+◌,
 use Rattle.grid_types.specs.declared.shape.Shape.{Shape}
 use Rattle.grid_types.specs.Shapes.{is_shape, area_pages, header_page, table_page, header_gate_at, root_fields_at}
 use Rattle.disk_trait.specs.Disk.{Agrees}
+use Rattle.disk_trait.specs.Moments.{Always}
 use Rattle.grid_model.specs.Spellings.{RootFields, root_bytes}
 use Rattle.grid_model.specs.Lawful.{IsRootOn, Area}
 use Rattle.grid_model.specs.Images.{header_gate, root_fields, IsOpenOver, IsNewest, HasArea}
@@ -82,6 +83,10 @@ HasOneTried s header old (w ∷ ws) image = HasTried s header old w image ⊎ Ha
 pub record IsReplaceable (s : Shape) (number gate : ℕ) (old : Option WholeRoot) (tried : List WholeRoot) (image : List ℕ) : Type 0 where
   pub keeps : KeepsOld s number old image
   pub under : ((gate ≢ 1) × (header_gate image (header_page number) ≢ 1)) ⊎ (HasOlder s (header_page number) old image ⊎ HasOneTried s (header_page number) old tried image)
+
+-- a root of this number may be written on a disk that reads as this image: it may in each image that a crash may leave
+abbrev pub MayBeWritten : Shape → ℕ → List ℕ → (List ℕ → Type 0) → Option WholeRoot → List WholeRoot → Type 0
+MayBeWritten s number seen may_leave old tried = Always may_leave (IsReplaceable s number (header_gate seen (header_page number)) old tried)
 
 -- the bytes of a header page that a root writes: its fields and its gate
 abbrev pub header_ranges : ℕ → List (ℕ × ℕ)

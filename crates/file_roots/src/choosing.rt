@@ -50,9 +50,18 @@ fn newer<const K: usize>(
     zeroth: Option<RootFields<K>>,
     first: Option<RootFields<K>>,
 ) -> Option<RootFields<K>>
-    ensures found { (s : Shape) (image : List ℕ) → Says s 0 (page_of 0 image) zeroth.entry → Says s 1 (page_of 1 image) first.entry → IfSome result (λ f. IsNewest s image (pages.fields_of f)) }
-    ensures lawful { (s : Shape) (a b : List ℕ) → Says s 0 a zeroth.entry → Says s 1 b first.entry → IfSome result (λ f. IsRootOn s (header_page f.number) (pages.fields_of f)) }
-    ensures none { (s : Shape) (image : List ℕ) → Says s 0 (page_of 0 image) zeroth.entry → Says s 1 (page_of 1 image) first.entry → IfNone result ((header_gate image 0 ≢ 1) × (header_gate image 1 ≢ 1)) }
+    ensures found { (s : Shape) (image : List ℕ)
+        → Says s 0 (page_of 0 image) zeroth.entry
+        → Says s 1 (page_of 1 image) first.entry
+        → IfSome result (λ f. IsNewest s image (pages.fields_of f)) }
+    ensures lawful { (s : Shape) (a b : List ℕ)
+        → Says s 0 a zeroth.entry
+        → Says s 1 b first.entry
+        → IfSome result (λ f. IsRootOn s (header_page f.number) (pages.fields_of f)) }
+    ensures none { (s : Shape) (image : List ℕ)
+        → Says s 0 (page_of 0 image) zeroth.entry
+        → Says s 1 (page_of 1 image) first.entry
+        → IfNone result ((header_gate image 0 ≢ 1) × (header_gate image 1 ≢ 1)) }
 {
     match zeroth {
         None => first,
@@ -76,9 +85,17 @@ pub fn choose<const K: usize>(
 ) -> Result<RootFields<K>, Refusal>
     requires lawful { IsTrue (is_shape shape.now) }
     requires attributes { shape.now.k ≡ K }
-    ensures found { (image : List ℕ) → page_of 0 image ≡ zeroth.now → page_of 1 image ≡ first.now → IfOk result (λ f. IsNewest shape.now image (pages.fields_of f)) }
+    ensures found { (image : List ℕ)
+        → page_of 0 image ≡ zeroth.now
+        → page_of 1 image ≡ first.now
+        → IfOk result (λ f. IsNewest shape.now image (pages.fields_of f)) }
     ensures lawful { IfOk result (λ f. IsRootOn shape.now (header_page f.number) (pages.fields_of f)) }
-    ensures damaged { (image : List ℕ) → page_of 0 image ≡ zeroth.now → page_of 1 image ≡ first.now → (p : ℕ) → IsErrOf result (Damaged p) → IsRootDamage shape.now image p }
+    ensures damaged { (image : List ℕ)
+        → page_of 0 image ≡ zeroth.now
+        → page_of 1 image ≡ first.now
+        → (p : ℕ)
+        → IsErrOf result (Damaged p)
+        → IsRootDamage shape.now image p }
     ensures no_other { IfErr result (λ e. (p : ℕ) × (e ≡ Damaged p)) }
 {
     if are_alike(zeroth, first) {

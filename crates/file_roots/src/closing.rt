@@ -16,11 +16,16 @@ use std::sync::ledger::Ledger;
 /// write could leave it open.
 fn shut<D: Disk>(disk: &mut D, at: u64, gate: u8) -> Result<(), DiskFailed>
     requires size { at + 1 ≤ D.extent disk.old }
-    ensures closed { IsTrue (D.honest disk.old) → gate ≡ slice_index (D.seen disk.old) at → OnOk result (slice_index (D.seen disk.new) at ≢ 1) }
+    ensures closed { IsTrue (D.honest disk.old)
+        → gate ≡ slice_index (D.seen disk.old) at
+        → OnOk result (slice_index (D.seen disk.new) at ≢ 1) }
     ensures durable { IsTrue (D.honest disk.old) → OnOk result (Only (D.seen disk.new) (D.may_leave disk.new)) }
     ensures outside { IsTrue (D.honest disk.old) → Agrees at 1 (D.seen disk.old) (D.seen disk.new) }
-    ensures moments { IsTrue (D.honest disk.old) → LeavesOnly D.moment D.left_since disk.old disk.new (After (Agrees at 1) (D.may_leave disk.old)) }
-    ensures unwritten { IsTrue (D.honest disk.old) → gate ≢ 1 → LeavesOnly D.moment D.left_since disk.old disk.new (D.may_leave disk.old) }
+    ensures moments { IsTrue (D.honest disk.old)
+        → LeavesOnly D.moment D.left_since disk.old disk.new (After (Agrees at 1) (D.may_leave disk.old)) }
+    ensures unwritten { IsTrue (D.honest disk.old)
+        → gate ≢ 1
+        → LeavesOnly D.moment D.left_since disk.old disk.new (D.may_leave disk.old) }
     ensures unchanged { IsTrue (D.honest disk.old) → gate ≢ 1 → D.seen disk.new ≡ D.seen disk.old }
     ensures extent { D.extent disk.new ≡ D.extent disk.old }
     ensures honest { D.honest disk.new ≡ D.honest disk.old }
@@ -44,10 +49,16 @@ pub fn close_root<D: Disk, L: Ledger>(
     requires size { file_pages layout.now.shape * 4096 ≤ D.extent disk.old }
     ensures closed { IsTrue (D.honest disk.old) → OnOk result (header_gate (D.seen disk.new) (header_page number) ≢ 1) }
     ensures durable { IsTrue (D.honest disk.old) → OnOk result (Only (D.seen disk.new) (D.may_leave disk.new)) }
-    ensures outside { IsTrue (D.honest disk.old) → Agrees (header_gate_at (header_page number)) 1 (D.seen disk.old) (D.seen disk.new) }
-    ensures moments { IsTrue (D.honest disk.old) → LeavesOnly D.moment D.left_since disk.old disk.new (After (Agrees (header_gate_at (header_page number)) 1) (D.may_leave disk.old)) }
-    ensures unwritten { IsTrue (D.honest disk.old) → header_gate (D.seen disk.old) (header_page number) ≢ 1 → LeavesOnly D.moment D.left_since disk.old disk.new (D.may_leave disk.old) }
-    ensures unchanged { IsTrue (D.honest disk.old) → header_gate (D.seen disk.old) (header_page number) ≢ 1 → D.seen disk.new ≡ D.seen disk.old }
+    ensures outside { IsTrue (D.honest disk.old)
+        → Agrees (header_gate_at (header_page number)) 1 (D.seen disk.old) (D.seen disk.new) }
+    ensures moments { IsTrue (D.honest disk.old)
+        → LeavesOnly D.moment D.left_since disk.old disk.new (After (Agrees (header_gate_at (header_page number)) 1) (D.may_leave disk.old)) }
+    ensures unwritten { IsTrue (D.honest disk.old)
+        → header_gate (D.seen disk.old) (header_page number) ≢ 1
+        → LeavesOnly D.moment D.left_since disk.old disk.new (D.may_leave disk.old) }
+    ensures unchanged { IsTrue (D.honest disk.old)
+        → header_gate (D.seen disk.old) (header_page number) ≢ 1
+        → D.seen disk.new ≡ D.seen disk.old }
     ensures extent { D.extent disk.new ≡ D.extent disk.old }
     ensures honest { D.honest disk.new ≡ D.honest disk.old }
     ensures read_fault { IsErrOf result ReadFault → Rose (D.read_count disk.old) (D.read_count disk.new) }

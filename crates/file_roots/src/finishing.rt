@@ -2,12 +2,12 @@
 ghost use Rattle.std.specs.Prelude.{◌≡◌, ◌<◌, ◌≤◌, ◌+◌, ◌*◌, ◌%◌, [], ◌∷◌, Option, IsTrue, OnOk, OnErr};
 ghost use Rattle.grid_types.specs.Shapes.{is_shape, file_pages, header_page, root_fields_at};
 ghost use Rattle.grid_model.specs.Spellings.{root_bytes};
-ghost use Rattle.grid_model.specs.Images.{header_gate, root_fields, HasArea};
+ghost use Rattle.grid_model.specs.Images.{root_fields, HasArea};
 ghost use Rattle.disk_trait.specs.Causes.{HasCause};
 ghost use Rattle.disk_trait.specs.Disk.{Only, Agrees};
 ghost use Rattle.disk_trait.specs.Moments.{After, Always, AgreesOutside, LeavesOnly};
 ghost use Rattle.file_roots.specs.Roots.{WholeRoot, fields_of, area_of, whole_of, IsRoot};
-ghost use Rattle.file_roots.specs.Replacing.{IsWhole, IsOneOf, ComesNext, IsOtherOlder, IsReady, IsReplaceable, header_ranges};
+ghost use Rattle.file_roots.specs.Replacing.{IsWhole, IsOneOf, ComesNext, IsOtherOlder, IsReady, MayBeWritten, header_ranges};
 
 use crate::Root;
 use crate::root::{FIELDS, GATE, fields};
@@ -26,10 +26,13 @@ fn write_fields<const K: usize, D: Disk>(
     requires attributes { layout.now.shape.k ≡ K }
     requires root { IsRoot layout.now.shape root.now }
     requires size { file_pages layout.now.shape * 4096 ≤ D.extent disk.old }
-    ensures fields { IsTrue (D.honest disk.old) → OnOk result (root_fields (D.seen disk.new) (header_page root.now.number) ≡ root_bytes (fields_of root.now)) }
+    ensures fields { IsTrue (D.honest disk.old)
+        → OnOk result (root_fields (D.seen disk.new) (header_page root.now.number) ≡ root_bytes (fields_of root.now)) }
     ensures durable { IsTrue (D.honest disk.old) → OnOk result (Only (D.seen disk.new) (D.may_leave disk.new)) }
-    ensures outside { IsTrue (D.honest disk.old) → Agrees (root_fields_at (header_page root.now.number)) 56 (D.seen disk.old) (D.seen disk.new) }
-    ensures moments { IsTrue (D.honest disk.old) → LeavesOnly D.moment D.left_since disk.old disk.new (After (Agrees (root_fields_at (header_page root.now.number)) 56) (D.may_leave disk.old)) }
+    ensures outside { IsTrue (D.honest disk.old)
+        → Agrees (root_fields_at (header_page root.now.number)) 56 (D.seen disk.old) (D.seen disk.new) }
+    ensures moments { IsTrue (D.honest disk.old)
+        → LeavesOnly D.moment D.left_since disk.old disk.new (After (Agrees (root_fields_at (header_page root.now.number)) 56) (D.may_leave disk.old)) }
     ensures extent { D.extent disk.new ≡ D.extent disk.old }
     ensures honest { D.honest disk.new ≡ D.honest disk.old }
     ensures cause { HasCause (D.write_count disk.old) (D.write_count disk.new) result }
@@ -53,18 +56,26 @@ pub fn finish_root<const K: usize, D: Disk>(
     requires attributes { layout.now.shape.k ≡ K }
     requires root { IsRoot layout.now.shape root.now }
     requires size { file_pages layout.now.shape * 4096 ≤ D.extent disk.old }
-    ensures old_or_new { IsTrue (D.honest disk.old) → (old : Option WholeRoot) → ComesNext old root.now.number
+    ensures old_or_new { IsTrue (D.honest disk.old)
+        → (old : Option WholeRoot)
+        → ComesNext old root.now.number
         → HasArea layout.now.shape (D.seen disk.old) (fields_of root.now) (area_of root.now)
         → Always (D.may_leave disk.old) (IsReady layout.now.shape root.now.number old)
         → LeavesOnly D.moment D.left_since disk.old disk.new (IsOneOf layout.now.shape old (whole_of root.now ∷ [])) }
-    ensures again { IsTrue (D.honest disk.old) → (old : Option WholeRoot) → ComesNext old root.now.number
+    ensures again { IsTrue (D.honest disk.old)
+        → (old : Option WholeRoot)
+        → ComesNext old root.now.number
         → HasArea layout.now.shape (D.seen disk.old) (fields_of root.now) (area_of root.now)
         → Always (D.may_leave disk.old) (IsReady layout.now.shape root.now.number old)
-        → OnErr result (Always (D.may_leave disk.new) (IsReplaceable layout.now.shape root.now.number (header_gate (D.seen disk.new) (header_page root.now.number)) old (whole_of root.now ∷ []))) }
-    ensures finished { IsTrue (D.honest disk.old) → HasArea layout.now.shape (D.seen disk.old) (fields_of root.now) (area_of root.now) → IsOtherOlder layout.now.shape root.now.number (D.seen disk.old)
+        → OnErr result (MayBeWritten layout.now.shape root.now.number (D.seen disk.new) (D.may_leave disk.new) old (whole_of root.now ∷ [])) }
+    ensures finished { IsTrue (D.honest disk.old)
+        → HasArea layout.now.shape (D.seen disk.old) (fields_of root.now) (area_of root.now)
+        → IsOtherOlder layout.now.shape root.now.number (D.seen disk.old)
         → OnOk result (IsWhole layout.now.shape (fields_of root.now) (area_of root.now) (D.seen disk.new)) }
-    ensures elsewhere { IsTrue (D.honest disk.old) → LeavesOnly D.moment D.left_since disk.old disk.new (After (AgreesOutside (header_ranges (header_page root.now.number))) (D.may_leave disk.old)) }
-    ensures outside { IsTrue (D.honest disk.old) → AgreesOutside (header_ranges (header_page root.now.number)) (D.seen disk.old) (D.seen disk.new) }
+    ensures elsewhere { IsTrue (D.honest disk.old)
+        → LeavesOnly D.moment D.left_since disk.old disk.new (After (AgreesOutside (header_ranges (header_page root.now.number))) (D.may_leave disk.old)) }
+    ensures outside { IsTrue (D.honest disk.old)
+        → AgreesOutside (header_ranges (header_page root.now.number)) (D.seen disk.old) (D.seen disk.new) }
     ensures durable { IsTrue (D.honest disk.old) → OnOk result (Only (D.seen disk.new) (D.may_leave disk.new)) }
     ensures extent { D.extent disk.new ≡ D.extent disk.old }
     ensures honest { D.honest disk.new ≡ D.honest disk.old }

@@ -29,7 +29,9 @@ impl<const K: usize> Gathered<K> {
         requires lawful { IsTrue (is_shape shape.now) }
         requires attributes { shape.now.k ≡ K }
         ensures room { IfOk result (HasRoom shape.now) }
-        ensures empty { (image : List ℕ) (r : RootFields) → IsRootOn shape.now (header_page r.number) r → IfOk result (HasGathered shape.now image r 0) }
+        ensures empty { (image : List ℕ) (r : RootFields)
+            → IsRootOn shape.now (header_page r.number) r
+            → IfOk result (HasGathered shape.now image r 0) }
     {
         let scales = Scales::new(alloc, shape.boundaries)?;
         let marks = vec![in alloc; false; shape.pages as usize]?;
@@ -45,9 +47,14 @@ impl<const K: usize> Gathered<K> {
 /// Adds a boundary behind those of a scale. One that does not lie above them all is refused.
 fn add_boundary<const K: usize>(scales: &mut Scales<K>, a: usize, v: u64) -> bool
     requires { a < K }
-    ensures added { IsTrue result → scales_of scales.new ≡ slice_set (scales_of scales.old) a (longer_scale (scales_of scales.old) a (v ∷ [])) }
+    ensures added { IsTrue result
+        → scales_of scales.new ≡ slice_set (scales_of scales.old) a (longer_scale (scales_of scales.old) a (v ∷ [])) }
     ensures scale { IsTrue result → IsTrue (is_scale (longer_scale (scales_of scales.old) a (v ∷ []))) }
-    ensures refused { result ≡ false → (d : LimitedScale) → length (scale_of (scales_of scales.old) a) < (slice_index_or scales.old a d).limit → IsTrue (is_scale (longer_scale (scales_of scales.old) a (v ∷ []))) → ⊥ }
+    ensures refused { result ≡ false
+        → (d : LimitedScale)
+        → length (scale_of (scales_of scales.old) a) < (slice_index_or scales.old a d).limit
+        → IsTrue (is_scale (longer_scale (scales_of scales.old) a (v ∷ [])))
+        → ⊥ }
     ensures limits { limits_of scales.new ≡ limits_of scales.old }
 {
     let scale = scales.scale(a);
@@ -71,10 +78,25 @@ pub fn take_boundaries<const K: usize>(
     requires attribute { a < K }
     requires few { count ≤ 500 }
     requires attributes { length scales.old ≡ K }
-    ensures taken { (xs : List ℕ) → AreOn 8 page.now xs → length xs ≡ count → IsTrue result → scales_of scales.new ≡ slice_set (scales_of scales.old) a (longer_scale (scales_of scales.old) a xs) }
-    ensures scale { IsTrue (is_scale (scale_of (scales_of scales.old) a)) → (xs : List ℕ) → AreOn 8 page.now xs → length xs ≡ count → IsTrue result → IsTrue (is_scale (longer_scale (scales_of scales.old) a xs)) }
-    ensures refused { (xs : List ℕ) → AreOn 8 page.now xs → length xs ≡ count → result ≡ false → (d : LimitedScale) → length (longer_scale (scales_of scales.old) a xs) ≤ (slice_index_or scales.old a d).limit
-        → IsTrue (is_scale (longer_scale (scales_of scales.old) a xs)) → ⊥ }
+    ensures taken { (xs : List ℕ)
+        → AreOn 8 page.now xs
+        → length xs ≡ count
+        → IsTrue result
+        → scales_of scales.new ≡ slice_set (scales_of scales.old) a (longer_scale (scales_of scales.old) a xs) }
+    ensures scale { IsTrue (is_scale (scale_of (scales_of scales.old) a))
+        → (xs : List ℕ)
+        → AreOn 8 page.now xs
+        → length xs ≡ count
+        → IsTrue result
+        → IsTrue (is_scale (longer_scale (scales_of scales.old) a xs)) }
+    ensures refused { (xs : List ℕ)
+        → AreOn 8 page.now xs
+        → length xs ≡ count
+        → result ≡ false
+        → (d : LimitedScale)
+        → length (longer_scale (scales_of scales.old) a xs) ≤ (slice_index_or scales.old a d).limit
+        → IsTrue (is_scale (longer_scale (scales_of scales.old) a xs))
+        → ⊥ }
     ensures limits { limits_of scales.new ≡ limits_of scales.old }
 {
     for i in 0..count {
@@ -87,9 +109,17 @@ pub fn take_boundaries<const K: usize>(
 
 /// Marks a data page that is one and is not marked yet.
 fn mark(marks: &mut Vec<bool>, page: u32) -> bool
-    ensures marked { (named : List ℕ) → AreMarked marks.old.items named → IsTrue result → AreMarked marks.new.items (named ++ page ∷ []) }
+    ensures marked { (named : List ℕ)
+        → AreMarked marks.old.items named
+        → IsTrue result
+        → AreMarked marks.new.items (named ++ page ∷ []) }
     ensures inside { IsTrue result → page < length marks.old.items }
-    ensures refused { (named more : List ℕ) → AreMarked marks.old.items named → result ≡ false → page < length marks.old.items → AreDistinct (named ++ page ∷ more) → ⊥ }
+    ensures refused { (named more : List ℕ)
+        → AreMarked marks.old.items named
+        → result ≡ false
+        → page < length marks.old.items
+        → AreDistinct (named ++ page ∷ more)
+        → ⊥ }
     ensures count { length marks.new.items ≡ length marks.old.items }
 {
     let at = page as usize;
@@ -105,9 +135,17 @@ fn mark(marks: &mut Vec<bool>, page: u32) -> bool
 
 /// Marks the data page that an entry names, where it names one.
 fn mark_entry(marks: &mut Vec<bool>, entry: u32, may_be_nowhere: bool) -> bool
-    ensures marked { (named : List ℕ) → AreMarked marks.old.items named → IsTrue result → AreMarked marks.new.items (named ++ named_by may_be_nowhere (entry ∷ [])) }
+    ensures marked { (named : List ℕ)
+        → AreMarked marks.old.items named
+        → IsTrue result
+        → AreMarked marks.new.items (named ++ named_by may_be_nowhere (entry ∷ [])) }
     ensures inside { IsTrue result → All (λ p. p < length marks.old.items) (named_by may_be_nowhere (entry ∷ [])) }
-    ensures refused { (named more : List ℕ) → AreMarked marks.old.items named → result ≡ false → All (λ p. p < length marks.old.items) (named_by may_be_nowhere (entry ∷ [])) → AreDistinct (named ++ (named_by may_be_nowhere (entry ∷ []) ++ more)) → ⊥ }
+    ensures refused { (named more : List ℕ)
+        → AreMarked marks.old.items named
+        → result ≡ false
+        → All (λ p. p < length marks.old.items) (named_by may_be_nowhere (entry ∷ []))
+        → AreDistinct (named ++ (named_by may_be_nowhere (entry ∷ []) ++ more))
+        → ⊥ }
     ensures count { length marks.new.items ≡ length marks.old.items }
 {
     if may_be_nowhere && entry == NOWHERE {
@@ -125,10 +163,23 @@ pub fn take_pages(
     may_be_nowhere: bool,
 ) -> Result<bool, AllocError>
     requires { count ≤ 1000 }
-    ensures taken { (xs : List ℕ) → AreOn 4 page.now xs → length xs ≡ count → IfOk result (λ t. IsTrue t → list.new ≡ list.old ++ xs) }
-    ensures inside { (xs : List ℕ) → AreOn 4 page.now xs → length xs ≡ count → IfOk result (λ t. IsTrue t → All (λ p. p < length marks.old.items) (named_by may_be_nowhere xs)) }
-    ensures marked { (xs named : List ℕ) → AreOn 4 page.now xs → length xs ≡ count → AreMarked marks.old.items named → IfOk result (λ t. IsTrue t → AreMarked marks.new.items (named ++ named_by may_be_nowhere xs)) }
-    ensures refused { (xs named : List ℕ) → AreOn 4 page.now xs → length xs ≡ count → AreMarked marks.old.items named
+    ensures taken { (xs : List ℕ)
+        → AreOn 4 page.now xs
+        → length xs ≡ count
+        → IfOk result (λ t. IsTrue t → list.new ≡ list.old ++ xs) }
+    ensures inside { (xs : List ℕ)
+        → AreOn 4 page.now xs
+        → length xs ≡ count
+        → IfOk result (λ t. IsTrue t → All (λ p. p < length marks.old.items) (named_by may_be_nowhere xs)) }
+    ensures marked { (xs named : List ℕ)
+        → AreOn 4 page.now xs
+        → length xs ≡ count
+        → AreMarked marks.old.items named
+        → IfOk result (λ t. IsTrue t → AreMarked marks.new.items (named ++ named_by may_be_nowhere xs)) }
+    ensures refused { (xs named : List ℕ)
+        → AreOn 4 page.now xs
+        → length xs ≡ count
+        → AreMarked marks.old.items named
         → IfOk result (λ t. t ≡ false → All (λ p. p < length marks.old.items) (named_by may_be_nowhere xs) → AreDistinct (named ++ named_by may_be_nowhere xs) → ⊥) }
     ensures count { length marks.new.items ≡ length marks.old.items }
 {

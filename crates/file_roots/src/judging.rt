@@ -42,10 +42,18 @@ fn take_scale<const K: usize>(
     requires attributes { length fields.now.boundaries ≡ K }
     requires scale { i < 8 }
     requires room { HasRoom shape.now gathered.old }
-    ensures gathered { (image : List ℕ) → page_of (table_page shape.now (header_page fields.now.number) i) image ≡ page.now → IsGathered shape.now image (pages.fields_of fields.now) i gathered.old
-        → IsTrue result → IsGathered shape.now image (pages.fields_of fields.now) (i + 1) gathered.new }
-    ensures refused { (image : List ℕ) → page_of (table_page shape.now (header_page fields.now.number) i) image ≡ page.now → IsGathered shape.now image (pages.fields_of fields.now) i gathered.old
-        → result ≡ false → (a : Area) → SpellsUpTo shape.now image (pages.fields_of fields.now) (i + 1) a → ⊥ }
+    ensures gathered { (image : List ℕ)
+        → page_of (table_page shape.now (header_page fields.now.number) i) image ≡ page.now
+        → IsGathered shape.now image (pages.fields_of fields.now) i gathered.old
+        → IsTrue result
+        → IsGathered shape.now image (pages.fields_of fields.now) (i + 1) gathered.new }
+    ensures refused { (image : List ℕ)
+        → page_of (table_page shape.now (header_page fields.now.number) i) image ≡ page.now
+        → IsGathered shape.now image (pages.fields_of fields.now) i gathered.old
+        → result ≡ false
+        → (a : Area)
+        → SpellsUpTo shape.now image (pages.fields_of fields.now) (i + 1) a
+        → ⊥ }
     ensures room { HasRoom shape.now gathered.new }
 {
     let count = boundaries_on(fields, i);
@@ -71,9 +79,13 @@ fn take_list<const K: usize>(
     requires root { IsRootOn shape.now (header_page fields.now.number) (pages.fields_of fields.now) }
     requires list { i ≡ 8 }
     requires room { HasRoom shape.now gathered.old }
-    ensures gathered { (image : List ℕ) → page_of (table_page shape.now (header_page fields.now.number) i) image ≡ page.now → IsGathered shape.now image (pages.fields_of fields.now) i gathered.old
+    ensures gathered { (image : List ℕ)
+        → page_of (table_page shape.now (header_page fields.now.number) i) image ≡ page.now
+        → IsGathered shape.now image (pages.fields_of fields.now) i gathered.old
         → IfOk result (λ t. IsTrue t → IsGathered shape.now image (pages.fields_of fields.now) (i + 1) gathered.new) }
-    ensures refused { (image : List ℕ) → page_of (table_page shape.now (header_page fields.now.number) i) image ≡ page.now → IsGathered shape.now image (pages.fields_of fields.now) i gathered.old
+    ensures refused { (image : List ℕ)
+        → page_of (table_page shape.now (header_page fields.now.number) i) image ≡ page.now
+        → IsGathered shape.now image (pages.fields_of fields.now) i gathered.old
         → IfOk result (λ t. t ≡ false → (a : Area) → SpellsUpTo shape.now image (pages.fields_of fields.now) (i + 1) a → ⊥) }
     ensures room { HasRoom shape.now gathered.new }
 {
@@ -97,9 +109,13 @@ fn take_table<const K: usize>(
     requires table { 9 ≤ i }
     requires inside { i < area_pages shape.now }
     requires room { HasRoom shape.now gathered.old }
-    ensures gathered { (image : List ℕ) → page_of (table_page shape.now (header_page fields.now.number) i) image ≡ page.now → IsGathered shape.now image (pages.fields_of fields.now) i gathered.old
+    ensures gathered { (image : List ℕ)
+        → page_of (table_page shape.now (header_page fields.now.number) i) image ≡ page.now
+        → IsGathered shape.now image (pages.fields_of fields.now) i gathered.old
         → IfOk result (λ t. IsTrue t → IsGathered shape.now image (pages.fields_of fields.now) (i + 1) gathered.new) }
-    ensures refused { (image : List ℕ) → page_of (table_page shape.now (header_page fields.now.number) i) image ≡ page.now → IsGathered shape.now image (pages.fields_of fields.now) i gathered.old
+    ensures refused { (image : List ℕ)
+        → page_of (table_page shape.now (header_page fields.now.number) i) image ≡ page.now
+        → IsGathered shape.now image (pages.fields_of fields.now) i gathered.old
         → IfOk result (λ t. t ≡ false → (a : Area) → SpellsUpTo shape.now image (pages.fields_of fields.now) (i + 1) a → ⊥) }
     ensures room { HasRoom shape.now gathered.new }
 {
@@ -123,9 +139,13 @@ fn take_page<const K: usize>(
     requires attributes { length fields.now.boundaries ≡ K }
     requires inside { i < area_pages shape.now }
     requires room { HasRoom shape.now gathered.old }
-    ensures gathered { (image : List ℕ) → page_of (table_page shape.now (header_page fields.now.number) i) image ≡ page.now → IsGathered shape.now image (pages.fields_of fields.now) i gathered.old
+    ensures gathered { (image : List ℕ)
+        → page_of (table_page shape.now (header_page fields.now.number) i) image ≡ page.now
+        → IsGathered shape.now image (pages.fields_of fields.now) i gathered.old
         → IfOk result (λ t. IsTrue t → IsGathered shape.now image (pages.fields_of fields.now) (i + 1) gathered.new) }
-    ensures refused { (image : List ℕ) → page_of (table_page shape.now (header_page fields.now.number) i) image ≡ page.now → IsGathered shape.now image (pages.fields_of fields.now) i gathered.old
+    ensures refused { (image : List ℕ)
+        → page_of (table_page shape.now (header_page fields.now.number) i) image ≡ page.now
+        → IsGathered shape.now image (pages.fields_of fields.now) i gathered.old
         → IfOk result (λ t. t ≡ false → (a : Area) → SpellsUpTo shape.now image (pages.fields_of fields.now) (i + 1) a → ⊥) }
     ensures room { HasRoom shape.now gathered.new }
 {
@@ -151,9 +171,13 @@ pub fn take_part<const K: usize>(
     requires attributes { length fields.now.boundaries ≡ K }
     requires inside { i < area_pages layout.now.shape }
     requires room { HasRoom layout.now.shape gathered.old }
-    ensures gathered { (image : List ℕ) → page_of (table_page layout.now.shape (header_page fields.now.number) i) image ≡ page.now → HasGathered layout.now.shape image (pages.fields_of fields.now) i gathered.old
+    ensures gathered { (image : List ℕ)
+        → page_of (table_page layout.now.shape (header_page fields.now.number) i) image ≡ page.now
+        → HasGathered layout.now.shape image (pages.fields_of fields.now) i gathered.old
         → IfOk result (λ t. IsTrue t → HasGathered layout.now.shape image (pages.fields_of fields.now) (i + 1) gathered.new) }
-    ensures refused { (image : List ℕ) → page_of (table_page layout.now.shape (header_page fields.now.number) i) image ≡ page.now → HasGathered layout.now.shape image (pages.fields_of fields.now) i gathered.old
+    ensures refused { (image : List ℕ)
+        → page_of (table_page layout.now.shape (header_page fields.now.number) i) image ≡ page.now
+        → HasGathered layout.now.shape image (pages.fields_of fields.now) i gathered.old
         → IfOk result (λ t. t ≡ false → (a : Area) → HasAreaUpTo layout.now.shape image (pages.fields_of fields.now) (i + 1) a → ⊥) }
     ensures room { HasRoom layout.now.shape gathered.new }
 {

@@ -78,10 +78,14 @@ pub fn write_part<const K: usize, D: Disk>(
     requires root { IsRoot layout.now.shape root.now }
     requires inside { i < area_pages layout.now.shape }
     requires size { file_pages layout.now.shape * 4096 ≤ D.extent disk.old }
-    ensures written { IsTrue (D.honest disk.old) → OnOk result (page_of (table_page layout.now.shape (header_page root.now.number) i) (D.seen disk.new) ≡ area_page root.now.number (area_of root.now) i) }
-    ensures outside { IsTrue (D.honest disk.old) → Agrees (table_page layout.now.shape (header_page root.now.number) i * 4096) 4096 (D.seen disk.old) (D.seen disk.new) }
-    ensures crash { IsTrue (D.honest disk.old) → Follows (Agrees (table_page layout.now.shape (header_page root.now.number) i * 4096) 4096) (D.may_leave disk.old) (D.may_leave disk.new) }
-    ensures moments { IsTrue (D.honest disk.old) → LeavesOnly D.moment D.left_since disk.old disk.new (After (Agrees (table_page layout.now.shape (header_page root.now.number) i * 4096) 4096) (D.may_leave disk.old)) }
+    ensures written { IsTrue (D.honest disk.old)
+        → OnOk result (page_of (table_page layout.now.shape (header_page root.now.number) i) (D.seen disk.new) ≡ area_page root.now.number (area_of root.now) i) }
+    ensures outside { IsTrue (D.honest disk.old)
+        → Agrees (table_page layout.now.shape (header_page root.now.number) i * 4096) 4096 (D.seen disk.old) (D.seen disk.new) }
+    ensures crash { IsTrue (D.honest disk.old)
+        → Follows (Agrees (table_page layout.now.shape (header_page root.now.number) i * 4096) 4096) (D.may_leave disk.old) (D.may_leave disk.new) }
+    ensures moments { IsTrue (D.honest disk.old)
+        → LeavesOnly D.moment D.left_since disk.old disk.new (After (Agrees (table_page layout.now.shape (header_page root.now.number) i * 4096) 4096) (D.may_leave disk.old)) }
     ensures extent { D.extent disk.new ≡ D.extent disk.old }
     ensures honest { D.honest disk.new ≡ D.honest disk.old }
     ensures cause { HasCause (D.write_count disk.old) (D.write_count disk.new) result }
@@ -103,10 +107,14 @@ pub fn write_parts<const K: usize, D: Disk>(
     requires attributes { layout.now.shape.k ≡ K }
     requires root { IsRoot layout.now.shape root.now }
     requires size { file_pages layout.now.shape * 4096 ≤ D.extent disk.old }
-    ensures written { IsTrue (D.honest disk.old) → OnOk result (HasArea layout.now.shape (D.seen disk.new) (fields_of root.now) (area_of root.now)) }
-    ensures outside { IsTrue (D.honest disk.old) → Within (area_range layout.now.shape (header_page root.now.number)) (D.seen disk.old) (D.seen disk.new) }
-    ensures crash { IsTrue (D.honest disk.old) → Follows (Within (area_range layout.now.shape (header_page root.now.number))) (D.may_leave disk.old) (D.may_leave disk.new) }
-    ensures moments { IsTrue (D.honest disk.old) → LeavesOnly D.moment D.left_since disk.old disk.new (After (Within (area_range layout.now.shape (header_page root.now.number))) (D.may_leave disk.old)) }
+    ensures written { IsTrue (D.honest disk.old)
+        → OnOk result (HasArea layout.now.shape (D.seen disk.new) (fields_of root.now) (area_of root.now)) }
+    ensures outside { IsTrue (D.honest disk.old)
+        → Within (area_range layout.now.shape (header_page root.now.number)) (D.seen disk.old) (D.seen disk.new) }
+    ensures crash { IsTrue (D.honest disk.old)
+        → Follows (Within (area_range layout.now.shape (header_page root.now.number))) (D.may_leave disk.old) (D.may_leave disk.new) }
+    ensures moments { IsTrue (D.honest disk.old)
+        → LeavesOnly D.moment D.left_since disk.old disk.new (After (Within (area_range layout.now.shape (header_page root.now.number))) (D.may_leave disk.old)) }
     ensures extent { D.extent disk.new ≡ D.extent disk.old }
     ensures honest { D.honest disk.new ≡ D.honest disk.old }
     ensures cause { HasCause (D.write_count disk.old) (D.write_count disk.new) result }

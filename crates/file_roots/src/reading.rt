@@ -33,9 +33,13 @@ fn read_fields<const K: usize, D: Disk, L: Ledger>(
     requires lawful { IsTrue (is_shape layout.now.shape) }
     requires attributes { layout.now.shape.k ≡ K }
     requires size { file_pages layout.now.shape * 4096 ≤ D.extent disk.old }
-    ensures found { IsTrue (D.honest disk.old) → IfOk result (λ f. IsNewest layout.now.shape (D.seen disk.old) (pages.fields_of f)) }
+    ensures found { IsTrue (D.honest disk.old)
+        → IfOk result (λ f. IsNewest layout.now.shape (D.seen disk.old) (pages.fields_of f)) }
     ensures lawful { IfOk result (λ f. IsRootOn layout.now.shape (header_page f.number) (pages.fields_of f)) }
-    ensures damaged { IsTrue (D.honest disk.old) → (p : ℕ) → IsErrOf result (Damaged p) → IsRootDamage layout.now.shape (D.seen disk.old) p }
+    ensures damaged { IsTrue (D.honest disk.old)
+        → (p : ℕ)
+        → IsErrOf result (Damaged p)
+        → IsRootDamage layout.now.shape (D.seen disk.old) p }
     ensures read_fault { IsErrOf result ReadFault → Rose (D.read_count disk.old) (D.read_count disk.new) }
     ensures no_other { IfErr result (λ e. (e ≡ ReadFault) ⊎ ((p : ℕ) × (e ≡ Damaged p))) }
     ensures seen { IsTrue (D.honest disk.old) → D.seen disk.new ≡ D.seen disk.old }
@@ -76,11 +80,16 @@ fn read_part<const K: usize, D: Disk, L: Ledger>(
     requires inside { i < area_pages layout.now.shape }
     requires room { HasRoom layout.now.shape gathered.old }
     requires size { file_pages layout.now.shape * 4096 ≤ D.extent disk.old }
-    ensures gathered { IsTrue (D.honest disk.old) → HasGathered layout.now.shape (D.seen disk.old) (pages.fields_of fields.now) i gathered.old
+    ensures gathered { IsTrue (D.honest disk.old)
+        → HasGathered layout.now.shape (D.seen disk.old) (pages.fields_of fields.now) i gathered.old
         → OnOk result (HasGathered layout.now.shape (D.seen disk.old) (pages.fields_of fields.now) (i + 1) gathered.new) }
-    ensures lawful { MayBeGathered layout.now.shape (pages.fields_of fields.now) i gathered.old → OnOk result (MayBeGathered layout.now.shape (pages.fields_of fields.now) (i + 1) gathered.new) }
-    ensures damaged { IsTrue (D.honest disk.old) → HasGathered layout.now.shape (D.seen disk.old) (pages.fields_of fields.now) i gathered.old
-        → (p : ℕ) → IsErrOf result (Damaged p) → HasBadPart layout.now.shape (D.seen disk.old) (pages.fields_of fields.now) p }
+    ensures lawful { MayBeGathered layout.now.shape (pages.fields_of fields.now) i gathered.old
+        → OnOk result (MayBeGathered layout.now.shape (pages.fields_of fields.now) (i + 1) gathered.new) }
+    ensures damaged { IsTrue (D.honest disk.old)
+        → HasGathered layout.now.shape (D.seen disk.old) (pages.fields_of fields.now) i gathered.old
+        → (p : ℕ)
+        → IsErrOf result (Damaged p)
+        → HasBadPart layout.now.shape (D.seen disk.old) (pages.fields_of fields.now) p }
     ensures room { HasRoom layout.now.shape gathered.new }
     ensures read_fault { IsErrOf result ReadFault → Rose (D.read_count disk.old) (D.read_count disk.new) }
     ensures no_other { IfErr result (λ e. (e ≡ NoMemory) ⊎ ((e ≡ ReadFault) ⊎ ((p : ℕ) × (e ≡ Damaged p)))) }
@@ -119,11 +128,16 @@ fn read_area<const K: usize, D: Disk, L: Ledger>(
     requires attributes { length fields.now.boundaries ≡ K }
     requires room { HasRoom layout.now.shape gathered.old }
     requires size { file_pages layout.now.shape * 4096 ≤ D.extent disk.old }
-    ensures gathered { IsTrue (D.honest disk.old) → HasGathered layout.now.shape (D.seen disk.old) (pages.fields_of fields.now) 0 gathered.old
+    ensures gathered { IsTrue (D.honest disk.old)
+        → HasGathered layout.now.shape (D.seen disk.old) (pages.fields_of fields.now) 0 gathered.old
         → OnOk result (HasGathered layout.now.shape (D.seen disk.old) (pages.fields_of fields.now) (area_pages layout.now.shape) gathered.new) }
-    ensures lawful { MayBeGathered layout.now.shape (pages.fields_of fields.now) 0 gathered.old → OnOk result (MayBeGathered layout.now.shape (pages.fields_of fields.now) (area_pages layout.now.shape) gathered.new) }
-    ensures damaged { IsTrue (D.honest disk.old) → HasGathered layout.now.shape (D.seen disk.old) (pages.fields_of fields.now) 0 gathered.old
-        → (p : ℕ) → IsErrOf result (Damaged p) → HasBadPart layout.now.shape (D.seen disk.old) (pages.fields_of fields.now) p }
+    ensures lawful { MayBeGathered layout.now.shape (pages.fields_of fields.now) 0 gathered.old
+        → OnOk result (MayBeGathered layout.now.shape (pages.fields_of fields.now) (area_pages layout.now.shape) gathered.new) }
+    ensures damaged { IsTrue (D.honest disk.old)
+        → HasGathered layout.now.shape (D.seen disk.old) (pages.fields_of fields.now) 0 gathered.old
+        → (p : ℕ)
+        → IsErrOf result (Damaged p)
+        → HasBadPart layout.now.shape (D.seen disk.old) (pages.fields_of fields.now) p }
     ensures room { HasRoom layout.now.shape gathered.new }
     ensures read_fault { IsErrOf result ReadFault → Rose (D.read_count disk.old) (D.read_count disk.new) }
     ensures no_other { IfErr result (λ e. (e ≡ NoMemory) ⊎ ((e ≡ ReadFault) ⊎ ((p : ℕ) × (e ≡ Damaged p)))) }
@@ -158,13 +172,29 @@ pub fn read_newest<const K: usize, D: Disk, L: Ledger>(
     requires few { K ≤ 4 }
     requires attributes { layout.now.shape.k ≡ K }
     requires size { file_pages layout.now.shape * 4096 ≤ D.extent disk.old }
-    ensures found { IsTrue (D.honest disk.old) → IfOk result (λ r. IsWhole layout.now.shape (fields_of r) (area_of r) (D.seen disk.old)) }
-    ensures only { IsTrue (D.honest disk.old) → (r : model.RootFields) (a : Area) → IsNewest layout.now.shape (D.seen disk.old) r → HasArea layout.now.shape (D.seen disk.old) r a → IfOk result (λ root. (fields_of root ≡ r) × (area_of root ≡ a)) }
-    ensures undamaged { IsTrue (D.honest disk.old) → (r : model.RootFields) (a : Area) → IsNewest layout.now.shape (D.seen disk.old) r → HasArea layout.now.shape (D.seen disk.old) r a → (p : ℕ) → IsErrOf result (Damaged p) → ⊥ }
+    ensures found { IsTrue (D.honest disk.old)
+        → IfOk result (λ r. IsWhole layout.now.shape (fields_of r) (area_of r) (D.seen disk.old)) }
+    ensures only { IsTrue (D.honest disk.old)
+        → (r : model.RootFields) (a : Area)
+        → IsNewest layout.now.shape (D.seen disk.old) r
+        → HasArea layout.now.shape (D.seen disk.old) r a
+        → IfOk result (λ root. (fields_of root ≡ r) × (area_of root ≡ a)) }
+    ensures undamaged { IsTrue (D.honest disk.old)
+        → (r : model.RootFields) (a : Area)
+        → IsNewest layout.now.shape (D.seen disk.old) r
+        → HasArea layout.now.shape (D.seen disk.old) r a
+        → (p : ℕ)
+        → IsErrOf result (Damaged p)
+        → ⊥ }
     ensures lawful { IfOk result (λ r. IsRoot layout.now.shape r) }
     ensures limits { IfOk result (λ r. limits_of r.scales ≡ replicate K layout.now.shape.boundaries) }
-    ensures damaged { IsTrue (D.honest disk.old) → (p : ℕ) → IsErrOf result (Damaged p) → IsRootDamage layout.now.shape (D.seen disk.old) p }
-    ensures no_memory { IsTrue (D.honest disk.old) → IsErrOf result NoMemory → (r : model.RootFields) × IsNewest layout.now.shape (D.seen disk.old) r }
+    ensures damaged { IsTrue (D.honest disk.old)
+        → (p : ℕ)
+        → IsErrOf result (Damaged p)
+        → IsRootDamage layout.now.shape (D.seen disk.old) p }
+    ensures no_memory { IsTrue (D.honest disk.old)
+        → IsErrOf result NoMemory
+        → (r : model.RootFields) × IsNewest layout.now.shape (D.seen disk.old) r }
     ensures read_fault { IsErrOf result ReadFault → Rose (D.read_count disk.old) (D.read_count disk.new) }
     ensures no_other { IfErr result (λ e. (e ≡ NoMemory) ⊎ ((e ≡ ReadFault) ⊎ ((p : ℕ) × (e ≡ Damaged p)))) }
     ensures seen { IsTrue (D.honest disk.old) → D.seen disk.new ≡ D.seen disk.old }

@@ -2,12 +2,11 @@
 ghost use Rattle.std.specs.Prelude.{◌≡◌, ◌⊎◌, ◌≤◌, ◌+◌, ◌*◌, List, ◌∷◌, Option, IsTrue, OnOk, OnErr, IfErr, IsErrOf};
 ghost use Rattle.grid_types.specs.declared.refusal.Refusal.TheVariants.{ReadFault, WriteFault};
 ghost use Rattle.grid_types.specs.Shapes.{is_shape, file_pages, header_page};
-ghost use Rattle.grid_model.specs.Images.{header_gate};
 ghost use Rattle.disk_trait.specs.Causes.{Rose};
 ghost use Rattle.disk_trait.specs.Disk.{Only};
-ghost use Rattle.disk_trait.specs.Moments.{After, Always, AgreesOutside, LeavesOnly};
+ghost use Rattle.disk_trait.specs.Moments.{After, AgreesOutside, LeavesOnly};
 ghost use Rattle.file_roots.specs.Roots.{WholeRoot, fields_of, area_of, whole_of, IsRoot};
-ghost use Rattle.file_roots.specs.Replacing.{IsWhole, IsOneOf, ComesNext, IsOtherOlder, IsReplaceable, root_ranges};
+ghost use Rattle.file_roots.specs.Replacing.{IsWhole, IsOneOf, ComesNext, IsOtherOlder, MayBeWritten, root_ranges};
 
 use crate::parts::write_parts;
 use crate::{Root, close_root, finish_root};
@@ -29,15 +28,23 @@ pub fn replace_root<const K: usize, D: Disk, L: Ledger>(
     requires attributes { layout.now.shape.k ≡ K }
     requires root { IsRoot layout.now.shape root.now }
     requires size { file_pages layout.now.shape * 4096 ≤ D.extent disk.old }
-    ensures old_or_new { IsTrue (D.honest disk.old) → (old : Option WholeRoot) (tried : List WholeRoot) → ComesNext old root.now.number
-        → Always (D.may_leave disk.old) (IsReplaceable layout.now.shape root.now.number (header_gate (D.seen disk.old) (header_page root.now.number)) old tried)
+    ensures old_or_new { IsTrue (D.honest disk.old)
+        → (old : Option WholeRoot) (tried : List WholeRoot)
+        → ComesNext old root.now.number
+        → MayBeWritten layout.now.shape root.now.number (D.seen disk.old) (D.may_leave disk.old) old tried
         → LeavesOnly D.moment D.left_since disk.old disk.new (IsOneOf layout.now.shape old (whole_of root.now ∷ tried)) }
-    ensures again { IsTrue (D.honest disk.old) → (old : Option WholeRoot) (tried : List WholeRoot) → ComesNext old root.now.number
-        → Always (D.may_leave disk.old) (IsReplaceable layout.now.shape root.now.number (header_gate (D.seen disk.old) (header_page root.now.number)) old tried)
-        → OnErr result (Always (D.may_leave disk.new) (IsReplaceable layout.now.shape root.now.number (header_gate (D.seen disk.new) (header_page root.now.number)) old (whole_of root.now ∷ tried))) }
-    ensures replaced { IsTrue (D.honest disk.old) → IsOtherOlder layout.now.shape root.now.number (D.seen disk.old) → OnOk result (IsWhole layout.now.shape (fields_of root.now) (area_of root.now) (D.seen disk.new)) }
-    ensures elsewhere { IsTrue (D.honest disk.old) → LeavesOnly D.moment D.left_since disk.old disk.new (After (AgreesOutside (root_ranges layout.now.shape (header_page root.now.number))) (D.may_leave disk.old)) }
-    ensures outside { IsTrue (D.honest disk.old) → AgreesOutside (root_ranges layout.now.shape (header_page root.now.number)) (D.seen disk.old) (D.seen disk.new) }
+    ensures again { IsTrue (D.honest disk.old)
+        → (old : Option WholeRoot) (tried : List WholeRoot)
+        → ComesNext old root.now.number
+        → MayBeWritten layout.now.shape root.now.number (D.seen disk.old) (D.may_leave disk.old) old tried
+        → OnErr result (MayBeWritten layout.now.shape root.now.number (D.seen disk.new) (D.may_leave disk.new) old (whole_of root.now ∷ tried)) }
+    ensures replaced { IsTrue (D.honest disk.old)
+        → IsOtherOlder layout.now.shape root.now.number (D.seen disk.old)
+        → OnOk result (IsWhole layout.now.shape (fields_of root.now) (area_of root.now) (D.seen disk.new)) }
+    ensures elsewhere { IsTrue (D.honest disk.old)
+        → LeavesOnly D.moment D.left_since disk.old disk.new (After (AgreesOutside (root_ranges layout.now.shape (header_page root.now.number))) (D.may_leave disk.old)) }
+    ensures outside { IsTrue (D.honest disk.old)
+        → AgreesOutside (root_ranges layout.now.shape (header_page root.now.number)) (D.seen disk.old) (D.seen disk.new) }
     ensures durable { IsTrue (D.honest disk.old) → OnOk result (Only (D.seen disk.new) (D.may_leave disk.new)) }
     ensures extent { D.extent disk.new ≡ D.extent disk.old }
     ensures honest { D.honest disk.new ≡ D.honest disk.old }
