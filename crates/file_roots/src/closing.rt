@@ -7,7 +7,7 @@ ghost use Rattle.disk_trait.specs.Causes.{HasCause, Rose};
 ghost use Rattle.disk_trait.specs.Disk.{Only, Agrees};
 ghost use Rattle.disk_trait.specs.Moments.{After, LeavesOnly};
 
-use crate::root::GATE;
+use crate::header::GATE;
 use disk_trait::{Disk, DiskFailed, Steps, write_through};
 use grid_types::{Layout, Refusal};
 use std::sync::ledger::Ledger;

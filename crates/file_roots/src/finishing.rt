@@ -10,8 +10,9 @@ ghost use Rattle.file_roots.specs.Roots.{WholeRoot, fields_of, area_of, whole_of
 ghost use Rattle.file_roots.specs.Replacing.{IsWhole, IsOneOf, ComesNext, IsOtherOlder, IsReady, MayBeWritten, header_ranges};
 
 use crate::Root;
-use crate::root::{FIELDS, GATE, fields};
-use disk_trait::{Disk, DiskFailed, write_through};
+use crate::header::{FIELDS, GATE, write_on_header};
+use crate::root::fields;
+use disk_trait::{Disk, DiskFailed};
 use grid_types::Layout;
 use root_pages::encode_fields;
 
@@ -40,7 +41,7 @@ fn write_fields<const K: usize, D: Disk>(
 {
     let mut bytes = [0; 56];
     encode_fields(&fields(root), &mut bytes);
-    write_through(disk, root.number % 2 * 4096 + FIELDS, &bytes)
+    write_on_header(disk, root.number, FIELDS, &bytes)
 }
 
 /// Writes the fields of a root, syncs, opens its gate, and syncs. Its table area was written before, and its header page
@@ -86,5 +87,5 @@ pub fn finish_root<const K: usize, D: Disk>(
         Ok(()) => {}
         Err(DiskFailed) => return Err(DiskFailed),
     }
-    write_through(disk, root.number % 2 * 4096 + GATE, &[1])
+    write_on_header(disk, root.number, GATE, &[1])
 }

@@ -6,6 +6,7 @@ mod choosing;
 mod closing;
 mod finishing;
 mod gathering;
+mod header;
 mod judging;
 mod laws;
 mod parts;

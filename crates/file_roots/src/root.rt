@@ -11,12 +11,6 @@ use root_pages::RootFields;
 /// Stands in a bucket table where no bucket has the number.
 pub const NOWHERE: u32 = u32::MAX;
 
-/// Where a header page has its gate.
-pub const GATE: u64 = 64;
-
-/// Where a header page has the fields of a root.
-pub const FIELDS: u64 = 72;
-
 /// A root of a file: its fields on a header page, and what stands in its table area.
 #[derive(Drop)]
 pub struct Root<const K: usize> {

@@ -14,10 +14,10 @@ use Rattle.file_roots.proofs.Stages.{while_fields, ready_again, IsStaged, while_
 use Rattle.file_roots.proofs.Exchange.{shows_old, shown, on_err}
 use Rattle.file_roots.proofs.finishing.finish_root.Goals as goal
 
-pub write_through-requires : goal.write_through-requires
-write_through-requires g c =
-    let low = header_inside c.args.layout.now.shape (header_page c.args.root.now.number) (g.D.Disk.extent c.args.disk.now) c.requires.lawful (header_two c.args.root.now.number) c.requires.size in
-    record { some = omega arith; page = omega arith; inside = omega (arith, low, c.in-Ok.ensures.extent) }
+pub write_on_header-requires : goal.write_on_header-requires
+write_on_header-requires g c =
+    let low = header_inside c.args.layout.now.shape 1 (g.D.Disk.extent c.args.disk.now) c.requires.lawful (omega arith) c.requires.size in
+    record { some = omega arith; page = omega arith; size = omega (arith, low, c.in-Ok.ensures.extent) }
 
 pub returns-in-Err-clause-old_or_new : goal.returns-in-Err-clause-old_or_new
 returns-in-Err-clause-old_or_new g c = λ h old comes area ready.
@@ -65,7 +65,7 @@ returns-clause-old_or_new g c = λ h old comes area ready.
       fields = subst (λ x. root_fields x header ≡ root_bytes new.fields) (sym (c.in-Ok.ensures.durable h i now)) (c.in-Ok.ensures.fields h);
       area = subst (λ x. HasArea s x new.fields new.area) (sym (c.in-Ok.ensures.durable h i now)) stays;
     } in
-    joined g.D.Disk.moment g.D.Disk.left_since c.args.disk.now mid c.write_through.new.disk _ _ _ first (c.write_through.ensures.moments told)
+    joined g.D.Disk.moment g.D.Disk.left_since c.args.disk.now mid c.write_on_header.new.disk _ _ _ first (c.write_on_header.ensures.moments told)
     (λ i from. inr (shows_old s number old i comes (while_fields s number lawful old comes from.0 i (ready from.0 from.1) from.2)))
     (λ i from. shown s number 0 old (new ∷ []) i comes (while_gate s new lawful root old comes 0 from.0 i (staged from.0 from.1) from.2))
 
@@ -88,7 +88,7 @@ returns-clause-again g c = λ h old comes area ready.
       fields = subst (λ x. root_fields x header ≡ root_bytes new.fields) (sym (c.in-Ok.ensures.durable h i now)) (c.in-Ok.ensures.fields h);
       area = subst (λ x. HasArea s x new.fields new.area) (sym (c.in-Ok.ensures.durable h i now)) stays;
     } in
-    on_err c.write_through.result (λ i now. let from = c.write_through.ensures.crash told i now in while_gate s new lawful root old comes _ from.0 i (staged from.0 from.1) from.2)
+    on_err c.write_on_header.result (λ i now. let from = c.write_on_header.ensures.crash told i now in while_gate s new lawful root old comes _ from.0 i (staged from.0 from.1) from.2)
 
 pub returns-clause-finished : goal.returns-clause-finished
 returns-clause-finished g c = λ h area other.
@@ -100,11 +100,11 @@ returns-clause-finished g c = λ h area other.
     let told = c.in-Ok.ensures.honest ∙ h in
     let start = g.D.Disk.seen c.args.disk.now in
     let mid = g.D.Disk.seen c.write_fields.new.disk in
-    let end = g.D.Disk.seen c.write_through.new.disk in
+    let end = g.D.Disk.seen c.write_on_header.new.disk in
     let low : header_gate_at header ≤ length mid = omega (arith, header_inside s header (g.D.Disk.extent c.args.disk.now) lawful (header_two new.number) c.requires.size, c.in-Ok.ensures.extent, g.met.D.Disk.whole c.write_fields.new.disk told) in
     let stays : HasArea s mid new new_area = area_above s (root_fields_at header) 56 new new_area start mid lawful (omega (arith, header_two new.number)) (c.in-Ok.ensures.outside h) area in
     let still : IsOtherOlder s new.number mid = other_stays s new.number (root_fields_at header) 56 start mid (omega arith) (omega arith) (c.in-Ok.ensures.outside h) other in
-    on_ok_weaker _ (finished s new new_area mid end lawful low c.requires.root.fields (c.in-Ok.ensures.fields h) stays still (c.write_through.ensures.outside told)) (c.write_through.ensures.written told)
+    on_ok_weaker _ (finished s new new_area mid end lawful low c.requires.root.fields (c.in-Ok.ensures.fields h) stays still (c.write_on_header.ensures.outside told)) (c.write_on_header.ensures.written told)
 
 pub returns-clause-elsewhere : goal.returns-clause-elsewhere
 returns-clause-elsewhere g c = λ h.
@@ -114,7 +114,7 @@ returns-clause-elsewhere g c = λ h.
     let mid = c.write_fields.new.disk in
     let came : (i : List ℕ) → g.D.Disk.may_leave mid i → After (Agrees (root_fields_at header) 56) (g.D.Disk.may_leave c.args.disk.now) i =
     λ i now. first.each i (g.met.D.Disk.counts_now mid (g.D.Disk.moment c.args.disk.now) i told first.later now) in
-    joined g.D.Disk.moment g.D.Disk.left_since c.args.disk.now mid c.write_through.new.disk _ _ _ first (c.write_through.ensures.moments told)
+    joined g.D.Disk.moment g.D.Disk.left_since c.args.disk.now mid c.write_on_header.new.disk _ _ _ first (c.write_on_header.ensures.moments told)
     (λ i from. (from.0, from.1, fields_among header from.0 i from.2))
     (gate_elsewhere header (g.D.Disk.may_leave c.args.disk.now) (g.D.Disk.may_leave mid) came)
 
@@ -122,4 +122,4 @@ pub returns-clause-outside : goal.returns-clause-outside
 returns-clause-outside g c = λ h.
     let header = header_page c.args.root.now.number in
     let told = c.in-Ok.ensures.honest ∙ h in
-    outside_then _ _ (g.D.Disk.seen c.write_fields.new.disk) _ (fields_among header _ _ (c.in-Ok.ensures.outside h)) (gate_among header _ _ (c.write_through.ensures.outside told))
+    outside_then _ _ (g.D.Disk.seen c.write_fields.new.disk) _ (fields_among header _ _ (c.in-Ok.ensures.outside h)) (gate_among header _ _ (c.write_on_header.ensures.outside told))
