@@ -1,11 +1,13 @@
 //! A header page is closed before another root is written on it.
-ghost use Rattle.std.specs.Prelude.{◌≡◌, ◌≢◌, ◌⊎◌, ◌≤◌, ◌+◌, ◌*◌, ◌%◌, IsTrue, OnOk, IfErr, IsErrOf, slice_index};
+ghost use Rattle.std.specs.Prelude.{◌≡◌, ◌≢◌, ◌⊎◌, ◌≤◌, ◌+◌, ◌*◌, ◌%◌, List, Option, IsTrue, OnOk, OnErr, IfErr, IsErrOf, slice_index};
 ghost use Rattle.grid_types.specs.declared.refusal.Refusal.TheVariants.{ReadFault, WriteFault};
 ghost use Rattle.grid_types.specs.Shapes.{is_shape, file_pages, header_page, header_gate_at};
 ghost use Rattle.grid_model.specs.Images.{header_gate};
 ghost use Rattle.disk_trait.specs.Causes.{HasCause, Rose};
 ghost use Rattle.disk_trait.specs.Disk.{Only, Agrees};
-ghost use Rattle.disk_trait.specs.Moments.{After, LeavesOnly};
+ghost use Rattle.disk_trait.specs.Moments.{After, Always, LeavesOnly};
+ghost use Rattle.file_roots.specs.Roots.{WholeRoot};
+ghost use Rattle.file_roots.specs.Replacing.{ComesNext, IsOneOf, IsReady, MayBeWritten};
 
 use crate::header::GATE;
 use disk_trait::{Disk, DiskFailed, Steps, write_through};
@@ -38,7 +40,8 @@ fn shut<D: Disk>(disk: &mut D, at: u64, gate: u8) -> Result<(), DiskFailed>
     disk.sync()
 }
 
-/// Closes the gate on the header page of a root with this number, and syncs.
+/// Closes the gate on the header page of a root with this number, and syncs. At each moment of it the old root, which stands
+/// on the other header page, or one that was tried before, is the newest; then a root may be written there.
 pub fn close_root<D: Disk, L: Ledger>(
     disk: &mut D,
     layout: &Layout,
@@ -47,6 +50,21 @@ pub fn close_root<D: Disk, L: Ledger>(
 ) -> Result<(), Refusal>
     requires lawful { IsTrue (is_shape layout.now.shape) }
     requires size { file_pages layout.now.shape * 4096 ≤ D.extent disk.old }
+    ensures ready { IsTrue (D.honest disk.old)
+        → (old : Option WholeRoot) (tried : List WholeRoot)
+        → ComesNext old number
+        → MayBeWritten layout.now.shape number (D.seen disk.old) (D.may_leave disk.old) old tried
+        → OnOk result (Always (D.may_leave disk.new) (IsReady layout.now.shape number old)) }
+    ensures old_or_tried { IsTrue (D.honest disk.old)
+        → (old : Option WholeRoot) (tried : List WholeRoot)
+        → ComesNext old number
+        → MayBeWritten layout.now.shape number (D.seen disk.old) (D.may_leave disk.old) old tried
+        → LeavesOnly D.moment D.left_since disk.old disk.new (IsOneOf layout.now.shape old tried) }
+    ensures again { IsTrue (D.honest disk.old)
+        → (old : Option WholeRoot) (tried : List WholeRoot)
+        → ComesNext old number
+        → MayBeWritten layout.now.shape number (D.seen disk.old) (D.may_leave disk.old) old tried
+        → OnErr result (MayBeWritten layout.now.shape number (D.seen disk.new) (D.may_leave disk.new) old tried) }
     ensures closed { IsTrue (D.honest disk.old) → OnOk result (header_gate (D.seen disk.new) (header_page number) ≢ 1) }
     ensures durable { IsTrue (D.honest disk.old) → OnOk result (Only (D.seen disk.new) (D.may_leave disk.new)) }
     ensures outside { IsTrue (D.honest disk.old)

@@ -1,5 +1,5 @@
 //! The pages of a root's table area.
-ghost use Rattle.std.specs.Prelude.{◌≡◌, ◌<◌, ◌≤◌, ◌+◌, ◌*◌, ◌-◌, ℕ, IsTrue, OnOk, length, take, drop};
+ghost use Rattle.std.specs.Prelude.{◌≡◌, ◌<◌, ◌≤◌, ◌+◌, ◌*◌, ◌-◌, ℕ, Option, IsTrue, OnOk, length, take, drop};
 ghost use Rattle.grid_types.specs.Pages.{page_of};
 ghost use Rattle.grid_types.specs.Shapes.{is_shape, area_pages, file_pages, header_page, table_page};
 ghost use Rattle.grid_model.specs.Scales.{scale_of};
@@ -7,9 +7,9 @@ ghost use Rattle.grid_model.specs.Images.{area_page, half_of_scale, HasArea};
 ghost use Rattle.linear_scales.specs.Limited.{scales_of};
 ghost use Rattle.disk_trait.specs.Causes.{HasCause};
 ghost use Rattle.disk_trait.specs.Disk.{Agrees, Follows};
-ghost use Rattle.disk_trait.specs.Moments.{After, LeavesOnly};
-ghost use Rattle.file_roots.specs.Roots.{fields_of, area_of, IsRoot};
-ghost use Rattle.file_roots.specs.Replacing.{Within, area_range};
+ghost use Rattle.disk_trait.specs.Moments.{After, Always, LeavesOnly};
+ghost use Rattle.file_roots.specs.Roots.{WholeRoot, fields_of, area_of, IsRoot};
+ghost use Rattle.file_roots.specs.Replacing.{ShowsOld, ComesNext, IsReady, Within, area_range};
 
 use crate::Root;
 use disk_trait::{Disk, DiskFailed};
@@ -66,7 +66,8 @@ fn encode_part<const K: usize>(root: &Root<K>, i: u32, page: &mut [u8; 4096])
     }
 }
 
-/// Writes page `i` of the table area of the root. It is on the disk after the next sync.
+/// Writes page `i` of the table area of the root. It is on the disk after the next sync. At each moment of it the old root,
+/// which stands on the other header page, is the newest.
 pub fn write_part<const K: usize, D: Disk>(
     disk: &mut D,
     layout: &Layout,
@@ -86,6 +87,16 @@ pub fn write_part<const K: usize, D: Disk>(
         → Follows (Agrees (table_page layout.now.shape (header_page root.now.number) i * 4096) 4096) (D.may_leave disk.old) (D.may_leave disk.new) }
     ensures moments { IsTrue (D.honest disk.old)
         → LeavesOnly D.moment D.left_since disk.old disk.new (After (Agrees (table_page layout.now.shape (header_page root.now.number) i * 4096) 4096) (D.may_leave disk.old)) }
+    ensures ready { IsTrue (D.honest disk.old)
+        → (old : Option WholeRoot)
+        → ComesNext old root.now.number
+        → Always (D.may_leave disk.old) (IsReady layout.now.shape root.now.number old)
+        → Always (D.may_leave disk.new) (IsReady layout.now.shape root.now.number old) }
+    ensures shows_old { IsTrue (D.honest disk.old)
+        → (old : Option WholeRoot)
+        → ComesNext old root.now.number
+        → Always (D.may_leave disk.old) (IsReady layout.now.shape root.now.number old)
+        → LeavesOnly D.moment D.left_since disk.old disk.new (ShowsOld layout.now.shape old) }
     ensures extent { D.extent disk.new ≡ D.extent disk.old }
     ensures honest { D.honest disk.new ≡ D.honest disk.old }
     ensures cause { HasCause (D.write_count disk.old) (D.write_count disk.new) result }

@@ -3,9 +3,13 @@ use Rattle.std.proofs.lemmas.Result.{on_ok_weaker}
 use Rattle.grid_types.specs.Pages.{page_of}
 use Rattle.grid_types.specs.Shapes.{header_page, table_page}
 use Rattle.disk_trait.specs.Disk.{Agrees, Follows}
-use Rattle.disk_trait.proofs.Moments.{stepped}
+use Rattle.disk_trait.proofs.Moments.{stepped, weakened}
 use Rattle.disk_trait.proofs.Pages.{agrees_same, page_written}
 use Rattle.file_roots.proofs.Writing.{lengths}
+use Rattle.file_roots.proofs.Headers.{header_two}
+use Rattle.file_roots.proofs.Areas.{part_within}
+use Rattle.file_roots.proofs.Stages.{while_parts}
+use Rattle.file_roots.proofs.Exchange.{shows_old}
 use Rattle.file_roots.proofs.parts.write_part.Goals as goal
 
 pub encode_part-requires : goal.encode_part-requires
@@ -29,3 +33,23 @@ returns-clause-moments g c = λ h.
     let is : c.from-at.result * 4096 ≡ at = ap (λ (n : ℕ). n * 4096) (c.from-at.ensures ∙ c.table_page.ensures.value) in
     let follows : Follows (Agrees at 4096) before now = subst (λ n. Follows (Agrees at n) before now) c.encode_part.array_long (subst (λ p. Follows (Agrees p (length c.encode_part.new.page)) before now) is (c.write.ensures.crash h)) in
     stepped g.D.Disk.moment g.D.Disk.left_since (Agrees at 4096) c.args.disk.now c.write.new.self before now (λ i. agrees_same _ _ i) (λ i left. g.met.D.Disk.only_now c.args.disk.now i h left) (c.write.ensures.time h) follows
+
+pub returns-clause-ready : goal.returns-clause-ready
+returns-clause-ready g c = λ h old comes ready.
+    let s = c.args.layout.now.shape in
+    let number = c.args.root.now.number in
+    let area = header_page number in
+    let before = g.D.Disk.may_leave c.args.disk.now in
+    let now = g.D.Disk.may_leave c.write.new.self in
+    let at = table_page s area c.args.i * 4096 in
+    let is : c.from-at.result * 4096 ≡ at = ap (λ (n : ℕ). n * 4096) (c.from-at.ensures ∙ c.table_page.ensures.value) in
+    let follows : Follows (Agrees at 4096) before now = subst (λ n. Follows (Agrees at n) before now) c.encode_part.array_long (subst (λ p. Follows (Agrees p (length c.encode_part.new.page)) before now) is (c.write.ensures.crash h)) in
+    λ i may. let from = follows i may in while_parts s number c.requires.lawful old comes from.0 i (ready from.0 from.1) (part_within s area c.args.i from.0 i (header_two number) c.requires.inside from.2)
+
+pub returns-clause-shows_old : goal.returns-clause-shows_old
+returns-clause-shows_old g c = λ h old comes ready.
+    let s = c.args.layout.now.shape in
+    let number = c.args.root.now.number in
+    let area = header_page number in
+    weakened g.D.Disk.moment g.D.Disk.left_since c.args.disk.now c.write.new.self _ _ (returns-clause-moments g c h)
+    (λ i from. shows_old s number old i comes (while_parts s number c.requires.lawful old comes from.0 i (ready from.0 from.1) (part_within s area c.args.i from.0 i (header_two number) c.requires.inside from.2)))

@@ -1,7 +1,5 @@
-use Rattle.std.proofs.Common.{◌≡◌, ◌≢◌, ◌∙◌, ℕ, List, ◌∷◌, inr, sym, ap, subst, arith}
+use Rattle.std.proofs.Common.{◌∙◌, ℕ, List, ◌∷◌, inr, arith}
 use Rattle.grid_types.specs.Shapes.{header_page, header_gate_at}
-use Rattle.grid_model.specs.Images.{header_gate}
-use Rattle.disk_trait.specs.Disk.{Agrees}
 use Rattle.disk_trait.specs.Moments.{After, Always}
 use Rattle.disk_trait.proofs.Moments.{joined, weakened}
 use Rattle.disk_trait.proofs.Ranges.{outside_then}
@@ -9,7 +7,7 @@ use Rattle.file_roots.specs.Roots.{whole_of}
 use Rattle.file_roots.specs.Replacing.{IsOneOf, IsOtherOlder, IsReady, Within, area_range, root_ranges}
 use Rattle.file_roots.proofs.Headers.{header_two}
 use Rattle.file_roots.proofs.Stages.{other_stays, other_above, while_parts, ready_again}
-use Rattle.file_roots.proofs.Exchange.{shows_old, old_is_one, one_more, tried_before, tried_now, closed_ready, closing_again, closing_moments, gate_of_root, header_of_root, area_of_root, after_then, after_sync}
+use Rattle.file_roots.proofs.Exchange.{shows_old, old_is_one, one_more, tried_before, tried_now, gate_of_root, header_of_root, area_of_root, after_then, after_sync}
 use Rattle.file_roots.proofs.replacing.replace_root.Goals as goal
 
 pub returns-in-Err-clause-old_or_new : goal.returns-in-Err-clause-old_or_new
@@ -19,11 +17,8 @@ returns-in-Err-clause-old_or_new g c = λ h old tried comes may.
     let header = header_page number in
     let lawful = c.requires.lawful in
     let new = whole_of c.args.root.now in
-    let before = g.D.Disk.may_leave c.args.disk.now in
-    let seen = g.D.Disk.seen c.args.disk.now in
-    let gate = header_gate seen header in
     let mid = c.close_root.new.disk in
-    let first = closing_moments s lawful number old comes tried g.D.Disk.moment g.D.Disk.left_since c.args.disk.now mid before gate (c.in-Err.ensures.moments h) (c.in-Err.ensures.unwritten h) may in
+    let first = c.in-Err.ensures.old_or_tried h old tried comes may in
     weakened g.D.Disk.moment g.D.Disk.left_since c.args.disk.now mid _ _ first (λ i w. inr w)
 
 pub returns-in-Err-clause-again : goal.returns-in-Err-clause-again
@@ -33,18 +28,8 @@ returns-in-Err-clause-again g c = λ h old tried comes may.
     let header = header_page number in
     let lawful = c.requires.lawful in
     let new = whole_of c.args.root.now in
-    let before = g.D.Disk.may_leave c.args.disk.now in
-    let seen = g.D.Disk.seen c.args.disk.now in
-    let gate = header_gate seen header in
     let mid = c.close_root.new.disk in
-    let then = header_gate (g.D.Disk.seen mid) header in
-    let told = c.in-Err.ensures.honest ∙ h in
-    let all = c.in-Err.ensures.moments h in
-    let from : (i : List ℕ) → g.D.Disk.may_leave mid i → After (Agrees (header_gate_at header) 1) before i = λ i now. all.each i (g.met.D.Disk.counts_now mid (g.D.Disk.moment c.args.disk.now) i told all.later now) in
-    let same : (i : List ℕ) → g.D.Disk.may_leave mid i → gate ≢ 1 → before i × (then ≡ gate) = λ i now shut.
-    let left = c.in-Err.ensures.unwritten h shut in
-    (left.each i (g.met.D.Disk.counts_now mid (g.D.Disk.moment c.args.disk.now) i told left.later now), ap (λ x. header_gate x header) (c.in-Err.ensures.unchanged h shut)) in
-    λ i now. tried_before s number then old new tried i (closing_again s lawful number old comes tried before gate then may i (from i now) (same i now))
+    λ i now. tried_before s number _ old new tried i (c.in-Err.ensures.again h old tried comes may i now)
 
 pub returns-in-Err-clause-elsewhere : goal.returns-in-Err-clause-elsewhere
 returns-in-Err-clause-elsewhere g c = λ h.
@@ -60,14 +45,10 @@ returns-in-Err-write_parts-clause-old_or_new g c = λ h old tried comes may.
     let header = header_page number in
     let lawful = c.requires.lawful in
     let new = whole_of c.args.root.now in
-    let before = g.D.Disk.may_leave c.args.disk.now in
-    let seen = g.D.Disk.seen c.args.disk.now in
-    let gate = header_gate seen header in
     let mid = c.close_root.new.disk in
-    let first = closing_moments s lawful number old comes tried g.D.Disk.moment g.D.Disk.left_since c.args.disk.now mid before gate (c.in-Ok.ensures.moments h) (c.in-Ok.ensures.unwritten h) may in
+    let first = c.in-Ok.ensures.old_or_tried h old tried comes may in
     let told = c.in-Ok.ensures.honest ∙ h in
-    let shut = closed_ready s lawful number old comes tried gate seen (g.D.Disk.seen mid) (may seen (g.met.D.Disk.seen_now c.args.disk.now h)) (c.in-Ok.ensures.outside h) (c.in-Ok.ensures.closed h) in
-    let ready : Always (g.D.Disk.may_leave mid) (IsReady s number old) = λ i now. subst (IsReady s number old) (sym (c.in-Ok.ensures.durable h i now)) shut in
+    let ready = c.in-Ok.ensures.ready h old tried comes may in
     let second = c.in-Err-write_parts.ensures.moments told in
     let still : (i : List ℕ) → After (Within (area_range s header)) (g.D.Disk.may_leave mid) i → IsReady s number old i = λ i from. while_parts s number lawful old comes from.0 i (ready from.0 from.1) from.2 in
     let both = joined g.D.Disk.moment g.D.Disk.left_since c.args.disk.now mid c.write_parts.new.disk _ _ (IsOneOf s old (new ∷ tried)) first second (λ i w. inr w) (λ i from. inr (old_is_one s old tried i (shows_old s number old i comes (still i from)))) in
@@ -80,13 +61,9 @@ returns-in-Err-write_parts-clause-again g c = λ h old tried comes may.
     let header = header_page number in
     let lawful = c.requires.lawful in
     let new = whole_of c.args.root.now in
-    let before = g.D.Disk.may_leave c.args.disk.now in
-    let seen = g.D.Disk.seen c.args.disk.now in
-    let gate = header_gate seen header in
     let mid = c.close_root.new.disk in
     let told = c.in-Ok.ensures.honest ∙ h in
-    let shut = closed_ready s lawful number old comes tried gate seen (g.D.Disk.seen mid) (may seen (g.met.D.Disk.seen_now c.args.disk.now h)) (c.in-Ok.ensures.outside h) (c.in-Ok.ensures.closed h) in
-    let ready : Always (g.D.Disk.may_leave mid) (IsReady s number old) = λ i now. subst (IsReady s number old) (sym (c.in-Ok.ensures.durable h i now)) shut in
+    let ready = c.in-Ok.ensures.ready h old tried comes may in
     let second = c.in-Err-write_parts.ensures.moments told in
     let still : (i : List ℕ) → After (Within (area_range s header)) (g.D.Disk.may_leave mid) i → IsReady s number old i = λ i from. while_parts s number lawful old comes from.0 i (ready from.0 from.1) from.2 in
     let end = c.write_parts.new.disk in
@@ -118,14 +95,10 @@ returns-in-Ok-finish_root-clause-old_or_new g c = λ h old tried comes may.
     let header = header_page number in
     let lawful = c.requires.lawful in
     let new = whole_of c.args.root.now in
-    let before = g.D.Disk.may_leave c.args.disk.now in
-    let seen = g.D.Disk.seen c.args.disk.now in
-    let gate = header_gate seen header in
     let mid = c.close_root.new.disk in
-    let first = closing_moments s lawful number old comes tried g.D.Disk.moment g.D.Disk.left_since c.args.disk.now mid before gate (c.in-Ok.ensures.moments h) (c.in-Ok.ensures.unwritten h) may in
+    let first = c.in-Ok.ensures.old_or_tried h old tried comes may in
     let told = c.in-Ok.ensures.honest ∙ h in
-    let shut = closed_ready s lawful number old comes tried gate seen (g.D.Disk.seen mid) (may seen (g.met.D.Disk.seen_now c.args.disk.now h)) (c.in-Ok.ensures.outside h) (c.in-Ok.ensures.closed h) in
-    let ready : Always (g.D.Disk.may_leave mid) (IsReady s number old) = λ i now. subst (IsReady s number old) (sym (c.in-Ok.ensures.durable h i now)) shut in
+    let ready = c.in-Ok.ensures.ready h old tried comes may in
     let second = c.in-Ok-write_parts.ensures.moments told in
     let still : (i : List ℕ) → After (Within (area_range s header)) (g.D.Disk.may_leave mid) i → IsReady s number old i = λ i from. while_parts s number lawful old comes from.0 i (ready from.0 from.1) from.2 in
     let end = c.write_parts.new.disk in
@@ -141,14 +114,10 @@ returns-in-Err-finish_root-clause-old_or_new g c = λ h old tried comes may.
     let header = header_page number in
     let lawful = c.requires.lawful in
     let new = whole_of c.args.root.now in
-    let before = g.D.Disk.may_leave c.args.disk.now in
-    let seen = g.D.Disk.seen c.args.disk.now in
-    let gate = header_gate seen header in
     let mid = c.close_root.new.disk in
-    let first = closing_moments s lawful number old comes tried g.D.Disk.moment g.D.Disk.left_since c.args.disk.now mid before gate (c.in-Ok.ensures.moments h) (c.in-Ok.ensures.unwritten h) may in
+    let first = c.in-Ok.ensures.old_or_tried h old tried comes may in
     let told = c.in-Ok.ensures.honest ∙ h in
-    let shut = closed_ready s lawful number old comes tried gate seen (g.D.Disk.seen mid) (may seen (g.met.D.Disk.seen_now c.args.disk.now h)) (c.in-Ok.ensures.outside h) (c.in-Ok.ensures.closed h) in
-    let ready : Always (g.D.Disk.may_leave mid) (IsReady s number old) = λ i now. subst (IsReady s number old) (sym (c.in-Ok.ensures.durable h i now)) shut in
+    let ready = c.in-Ok.ensures.ready h old tried comes may in
     let second = c.in-Ok-write_parts.ensures.moments told in
     let still : (i : List ℕ) → After (Within (area_range s header)) (g.D.Disk.may_leave mid) i → IsReady s number old i = λ i from. while_parts s number lawful old comes from.0 i (ready from.0 from.1) from.2 in
     let end = c.write_parts.new.disk in
@@ -164,13 +133,9 @@ returns-in-Err-finish_root-clause-again g c = λ h old tried comes may.
     let header = header_page number in
     let lawful = c.requires.lawful in
     let new = whole_of c.args.root.now in
-    let before = g.D.Disk.may_leave c.args.disk.now in
-    let seen = g.D.Disk.seen c.args.disk.now in
-    let gate = header_gate seen header in
     let mid = c.close_root.new.disk in
     let told = c.in-Ok.ensures.honest ∙ h in
-    let shut = closed_ready s lawful number old comes tried gate seen (g.D.Disk.seen mid) (may seen (g.met.D.Disk.seen_now c.args.disk.now h)) (c.in-Ok.ensures.outside h) (c.in-Ok.ensures.closed h) in
-    let ready : Always (g.D.Disk.may_leave mid) (IsReady s number old) = λ i now. subst (IsReady s number old) (sym (c.in-Ok.ensures.durable h i now)) shut in
+    let ready = c.in-Ok.ensures.ready h old tried comes may in
     let second = c.in-Ok-write_parts.ensures.moments told in
     let still : (i : List ℕ) → After (Within (area_range s header)) (g.D.Disk.may_leave mid) i → IsReady s number old i = λ i from. while_parts s number lawful old comes from.0 i (ready from.0 from.1) from.2 in
     let end = c.write_parts.new.disk in
