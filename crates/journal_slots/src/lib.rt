@@ -7,7 +7,6 @@ mod fields;
 mod gates;
 mod lawful;
 mod laws;
-mod pages;
 mod publishing;
 mod reading;
 mod scanning;

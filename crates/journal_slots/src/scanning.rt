@@ -10,9 +10,8 @@ ghost use Rattle.grid_model.specs.Images.{HasGatesOf, open_slots_of};
 ghost use Rattle.journal_slots.specs.Scans.{AreBatchesOn, IsScan, SpellsSome, IsFirstBadSlot, IsFirstBad, IsRefusalOfScan, IsMore, SpellsOf, IsToKeep, WantsMemory};
 
 use crate::gates::{is_gate_page, is_open};
-use crate::pages::read_page;
 use crate::{Batches, decode};
-use disk_trait::{Disk, Steps};
+use disk_trait::{Disk, Steps, read_page};
 use grid_types::{Layout, Refusal};
 use std::alloc::{AllocError, Global};
 use std::sync::ledger::Ledger;
@@ -42,7 +41,7 @@ fn scan_slot<const K: usize, D: Disk, L: Ledger>(
     ensures writes { D.write_count disk.old ≤ D.write_count disk.new }
 {
     let mut bytes = [0; 4096];
-    match read_page(disk, page, &mut bytes, steps) {
+    match read_page(disk, page as u64, &mut bytes, steps) {
         Ok(()) => {}
         Err(why) => return Err(why),
     }
@@ -145,7 +144,7 @@ pub fn scan_half<const K: usize, D: Disk, L: Ledger>(
 {
     let mut bytes = [0; 4096];
     let gate_page = layout.gate_page(half);
-    match read_page(disk, gate_page, &mut bytes, steps) {
+    match read_page(disk, gate_page as u64, &mut bytes, steps) {
         Ok(()) => {}
         Err(why) => return Err(why),
     }
