@@ -5,20 +5,14 @@ use Rattle.std.proofs.lemmas.List.FromFn.{length-range_with_len}
 use Rattle.std.proofs.Common.{◌==◌, cond, nat_le, leb-true, leb-false, eqb-true, ◌≡◌, ◌<◌, ◌≤◌, ◌+◌, ◌-◌, ◌⊎◌, ⊎_elim, ℕ, zero, suc, Bool, true, false, List, [], ◌∷◌, fold, take, length, Option, Some, None, IsTrue, IsFalse, Ok, Err, refl, sym, ap, subst, ◌∙◌, arith, true≢false, slice_get}
 use Rattle.std.specs.Prelude.{filter_map}
 use Rattle.std.specs.List.{Contains, range_with_len, cons_option}
-use Rattle.std.specs.Option.{is_some, option_and_then}
+use Rattle.std.specs.Option.{option_and_then}
 use Rattle.grid_types.specs.declared.request.Line.{Line}
 use Rattle.grid_model.specs.Lists.{below}
 use Rattle.grid_model.specs.Script.{Meaning, Silent, Speaks, Asks, Bad, meaning, lines, lines_of, onto_first, meanings, longest}
 use Rattle.grid_model.specs.ScriptLaws.{line_at, line_of, speaker, speaker_at}
-use Rattle.grid_model.proofs.Reading.{one-script}
-use Rattle.grid_model.proofs.Boxes.{one-value}
+use Rattle.grid_model.proofs.Reading.{one-script, ok-is-no-err}
+use Rattle.grid_model.proofs.Boxes.{one-value, some-not-none}
 use Rattle.grid_script.specs.Taken.{is_taken, AreTaken, IsScript, Refuses, IsRefused, IsFirstRefused, IsFault, RefusesNone}
-
-ok-not-err : {X E : Type 0} (x : X) (e : E) → Ok x ≡ Err e → ⊥
-ok-not-err x e p = cc
-
-some-not-none : {X : Type 0} (x : X) → None ≡ Some x → ⊥
-some-not-none x e = true≢false (sym (ap is_some e))
 
 -- a text has no more lines than bytes
 few-onto : (b : ℕ) (ls : List (List ℕ)) (n : ℕ) → length ls ≤ n → length (onto_first b ls) ≤ suc n
@@ -38,7 +32,7 @@ apart : (n m : ℕ) → (n == m) ≡ false → (n < m) ⊎ (m < n)
 apart n m e = grind (arith, nat_tests)
 
 got-inside : {X : Type 0} (xs : List X) (i : ℕ) (x : X) → slice_get xs i ≡ Some x → i < length xs
-got-inside [] i x e = absurd (some-not-none x e)
+got-inside [] i x e = absurd (some-not-none x (sym e))
 got-inside (y ∷ ys) zero x e = omega arith
 got-inside (y ∷ ys) (suc i) x e = omega (arith, got-inside ys i x e)
 
@@ -122,7 +116,7 @@ module _ {K : ℕ} where
       same n = omega arith
 
   nothing-barred : (client : ℕ) → Passes client []
-  nothing-barred client i b = some-not-none b.says b.there
+  nothing-barred client i b = some-not-none b.says (sym b.there)
 
   empty-passes : (client : ℕ) (rest : List ℕ) → length rest ≡ 0 → Passes client (meanings K rest)
   unfolding lines_of
@@ -144,8 +138,8 @@ module _ {K : ℕ} where
       by (Some m) e (suc k, p, q) rest = rest (k, omega (arith, p), q)
 
   line-is : (client : ℕ) (m : Meaning K) (l : Line K) → line_of client m ≡ Some l → IsFalse (is_taken l) → Refuses client m
-  line-is client Silent l e f = absurd (some-not-none l e)
-  line-is client (Speaks c) l e f = absurd (some-not-none l e)
+  line-is client Silent l e f = absurd (some-not-none l (sym e))
+  line-is client (Speaks c) l e f = absurd (some-not-none l (sym e))
   line-is client (Asks r) l e f = subst (λ x. IsFalse (is_taken x)) (sym (one-value (record { client = client; request = r }) l e)) f
   line-is client Bad l e f = tt
 
@@ -154,7 +148,7 @@ module _ {K : ℕ} where
   untaken-refused ms i l e f = by (slice_get ms i) refl
     where
       by : (o : Option (Meaning K)) → slice_get ms i ≡ o → IsRefused ms i
-      by None p = absurd (some-not-none l (sym (ap (λ x. option_and_then (line_of (speaker_at ms i)) x) p) ∙ e))
+      by None p = absurd (some-not-none l (sym e ∙ ap (λ x. option_and_then (line_of (speaker_at ms i)) x) p))
       by (Some m) p = record { says = m; there = p; refused = line-is (speaker_at ms i) m l (sym (ap (λ x. option_and_then (line_of (speaker_at ms i)) x) p) ∙ e) f }
 
   -- a script with a line that is not taken has one that is refused
@@ -173,7 +167,7 @@ module _ {K : ℕ} where
     where
       by : (t : Bool) → nat_le (length bytes) longest ≡ t → length bytes ≤ longest
       by true p = leb-true (length bytes) longest p
-      by false p = absurd (ok-not-err asked 0 (sym e ∙ ((one-script {K = K}).long bytes).1 (omega (arith, leb-false (length bytes) longest p))))
+      by false p = absurd (ok-is-no-err asked 0 (sym e ∙ ((one-script {K = K}).long bytes).1 (omega (arith, leb-false (length bytes) longest p))))
 
   made-few : {X : Type 0} (f : X → Option (Line K)) (xs : List X) → length (filter_map f xs) ≤ length xs
   made-few f [] = omega arith
@@ -197,7 +191,7 @@ module _ {K : ℕ} where
       after (Some m) c = (suc c.0, omega (arith, c.1), c.2)
 
       first : (o : Option (Line K)) → o ≡ Some l → Contains (cons_option o (filter_map f (range_with_len (a + 1) n))) l
-      first None g = absurd (some-not-none l g)
+      first None g = absurd (some-not-none l (sym g))
       first (Some m) g = (zero, omega arith, one-value m l g)
 
       by : (t : Bool) → (a == i) ≡ t → (a + 1 ≤ i → i < a + 1 + n → f i ≡ Some l → Contains (filter_map f (range_with_len (a + 1) n)) l) → Contains (cons_option (f a) (filter_map f (range_with_len (a + 1) n))) l

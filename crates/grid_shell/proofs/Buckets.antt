@@ -1,22 +1,13 @@
 -- The page of the one bucket, new and after a put.
-use Rattle.std.proofs.Common.{◌≡◌, ◌<◌, ◌≤◌, ◌^◌, ℕ, zero, suc, List, [], length, replicate, slice_index, lit<, refl, sym, ap, subst, ◌∙◌, arith}
-use Rattle.std.proofs.lemmas.List.{length-replicate}
+use Rattle.std.proofs.Common.{◌≡◌, ◌≤◌, ℕ, zero, suc, List, [], length, replicate, slice_index, lit<, refl, sym, ap, subst, ◌∙◌, arith}
 use Rattle.grid_types.specs.Keys.{IsKey}
+use Rattle.grid_model.proofs.NewLayout.{alike_key}
 use Rattle.grid_types.specs.Regions.{Within}
 use Rattle.grid_model.specs.Tables.{Table, with_data, entries_of}
 use Rattle.grid_types.specs.Pages.{page_of}
 use Rattle.bucket_page.specs.declared.bucket.Bucket.{Bucket}
 use Rattle.bucket_page.specs.Spelling.{spelling, IsBucket}
 use Rattle.grid_shell.specs.Standing.{StandsFor}
-
-replicated_in_range : (n x a : ℕ) → x < 2 ^ 64 → slice_index (replicate n x) a < 2 ^ 64
-replicated_in_range zero x a lt = lit< tt
-replicated_in_range (suc n) x zero lt = lt
-replicated_in_range (suc n) x (suc a) lt = replicated_in_range n x a lt
-
--- one number for each attribute
-corner_is_key : (K x : ℕ) → x < 2 ^ 64 → IsKey K (replicate K x)
-corner_is_key K x lt = record { count = length-replicate {A = ℕ} K x; in_range = λ a. replicated_in_range K x a lt }
 
 replicated_zero : (n a : ℕ) → slice_index (replicate n 0) a ≡ 0
 replicated_zero zero a = refl
@@ -30,8 +21,8 @@ empty_is_bucket K C b some number turn lo hi none =
     record {
       number = omega (arith, number);
       turn = omega (arith, turn, some);
-      lo = subst (IsKey K) (sym lo) (corner_is_key K 0 (lit< tt));
-      hi = subst (IsKey K) (sym hi) (corner_is_key K 18446744073709551615 (lit< tt));
+      lo = subst (IsKey K) (sym lo) (alike_key K 0 (lit< tt));
+      hi = subst (IsKey K) (sym hi) (alike_key K 18446744073709551615 (lit< tt));
       not_empty = λ a lt. let least : slice_index b.region.lo a ≡ 0 = ap (λ (xs : List ℕ). slice_index xs a) lo ∙ replicated_zero K a in omega (arith, least);
       count = omega (arith, empty);
       rows = λ i d lt. absurd (omega (arith, lt, empty));

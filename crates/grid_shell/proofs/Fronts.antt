@@ -1,6 +1,6 @@
 -- A script, and the front of the input that is read of it: one byte more than a script may have.
 use Rattle.std.proofs.Common.{◌≡◌, ◌≤◌, ◌<◌, ◌∙◌, ℕ, Bool, true, false, List, length, take, refl, sym, ap, subst, arith, nat_lt, ltb-false, ltb-true}
-use Rattle.std.specs.Prelude.{Ok, Err, if◌then◌else◌}
+use Rattle.std.specs.Prelude.{Err, if◌then◌else◌}
 use Rattle.std.proofs.lemmas.Bool.{lt-ltb}
 use Rattle.std.proofs.lemmas.List.{length-take, take_all}
 use Rattle.grid_types.specs.declared.request.Line.{Line}

@@ -1,6 +1,5 @@
 -- How a run may end: for want of memory, by a count that rose, or answered.
 use Rattle.std.proofs.Common.{◌≡◌, ◌⊎◌, ◌∷◌, [], inl, inr, ℕ, refl, sym, ap, subst, ◌∙◌, arith}
-use Rattle.std.specs.Prelude.{Result, Ok, Err, OnOk, OnErr}
 use Rattle.grid_script.specs.declared.script.ScriptFault.{ScriptFault}
 use Rattle.grid_script.specs.declared.script.ScriptFault.TheVariants as fault
 use Rattle.grid_shell.specs.declared.ending.Ending.{Ending}

@@ -1,10 +1,8 @@
 -- Input that comes piece by piece.
-use Rattle.std.proofs.Common.{◌≡◌, ◌≤◌, ◌+◌, ℕ, List, [], ◌++◌, length, take, drop, refl, sym, ap, ◌∙◌, length-append, arith}
-use Rattle.std.proofs.lemmas.List.{take-append-drop, take-append-le, take-take, drop-take, drop-drop, take_all, length-take-le, length-drop}
+use Rattle.std.proofs.Common.{◌≡◌, ◌≤◌, ◌+◌, ℕ, List, ◌++◌, length, take, drop, sym, ap, ◌∙◌, length-append, arith}
+use Rattle.std.proofs.lemmas.List.{take-append-le, drop-drop, length-take-le}
 use Rattle.disk_trait.specs.Streams.{Takes}
-
-take_split : (at n : ℕ) (xs : List ℕ) → take (at + n) xs ≡ take at xs ++ take n (drop at xs)
-take_split at n xs = sym (take-append-drop at (take (at + n) xs)) ∙ rw (take-take at (at + n) xs (omega arith), drop-take at n xs) refl
+use Rattle.disk_trait.proofs.Pieces.{take_split}
 
 -- a piece of which n bytes are kept
 pub length-piece : (out other : List ℕ) (n : ℕ) → n ≤ length out → length (take n (out ++ other)) ≡ n

@@ -5,7 +5,6 @@ use Rattle.std.specs.Option.{option_map, option_and_then}
 use Rattle.std.proofs.lemmas.Bool.Decides.{nat_tests}
 use Rattle.grid_types.specs.declared.update.Record.{Record}
 use Rattle.grid_types.specs.declared.update.Update.TheVariants.{Put}
-use Rattle.grid_types.specs.declared.note.NoteOf.{NoteOf}
 use Rattle.grid_types.specs.declared.note.NoteOf.TheVariants as note
 use Rattle.grid_types.specs.declared.refusal.Refusal.TheVariants.{Full, NoCut}
 use Rattle.grid_types.specs.declared.request.Request.TheVariants as ask

@@ -128,10 +128,13 @@ impl<D: Disk> Lone<D> {
         ensures key { OnOk result (IsKey K key.now.at) }
         ensures expected { IfOk result (λ b. IsExpected K self.old.capacity self.new.page key.now.at b) }
         ensures damaged { IsErrOf result (Damaged 0) → IsDamaged K self.old.capacity self.new.page key.now.at }
-        ensures found { IsTrue (D.honest self.old.disk) → IfOk result (λ b. HasBucket K self.old.capacity (D.seen self.old.disk) b × Within b.region.lo b.region.hi key.now.at) }
-        ensures only { IsTrue (D.honest self.old.disk) → (b : Bucket K) → HasBucket K self.old.capacity (D.seen self.old.disk) b → IfOk result (λ r. r ≡ b) }
+        ensures found { IsTrue (D.honest self.old.disk)
+            → IfOk result (λ b. HasBucket K self.old.capacity (D.seen self.old.disk) b × Within b.region.lo b.region.hi key.now.at) }
+        ensures only { IsTrue (D.honest self.old.disk) → (b : Bucket K) → HasBucket K self.old.capacity (D.seen self.old.disk) b
+            → IfOk result (λ r. r ≡ b) }
         ensures bytes { IsTrue (D.honest self.old.disk) → (IsErrOf result ReadFault → ⊥) → self.new.page ≡ page_of 0 (D.seen self.old.disk) }
-        ensures undamaged { IsTrue (D.honest self.old.disk) → IsErrOf result (Damaged 0) → (t : Table) → StandsFor K self.old.capacity (D.seen self.old.disk) t → ⊥ }
+        ensures undamaged { IsTrue (D.honest self.old.disk) → IsErrOf result (Damaged 0) → (t : Table)
+            → StandsFor K self.old.capacity (D.seen self.old.disk) t → ⊥ }
         ensures read_fault { IsErrOf result ReadFault → Rose (D.read_count self.old.disk) (D.read_count self.new.disk) }
         ensures no_other { IfErr result (λ e. (e ≡ ReadFault) ⊎ (e ≡ Damaged 0)) }
         ensures seen { IsTrue (D.honest self.old.disk) → D.seen self.new.disk ≡ D.seen self.old.disk }
@@ -181,10 +184,12 @@ impl<D: Disk> Lone<D> {
     ) -> Result<Answer<Option<Data>>, Refusal>
         requires { K ≤ 4 }
         ensures at { IfOk result (λ a. a.at ≡ self.old.front) }
-        ensures value { IsTrue (D.honest self.old.disk) → (t : Table) → StandsFor K self.old.capacity (D.seen self.old.disk) t → IfOk result (λ a. a.value ≡ get t key.now.at) }
+        ensures value { IsTrue (D.honest self.old.disk) → (t : Table) → StandsFor K self.old.capacity (D.seen self.old.disk) t
+            → IfOk result (λ a. a.value ≡ get t key.now.at) }
         ensures answers { IfOk result (λ a. Answers K self.old.capacity self.new.page key.now.at a.value) }
         ensures damaged { IsErrOf result (Damaged 0) → IsDamaged K self.old.capacity self.new.page key.now.at }
-        ensures undamaged { IsTrue (D.honest self.old.disk) → IsErrOf result (Damaged 0) → (t : Table) → StandsFor K self.old.capacity (D.seen self.old.disk) t → ⊥ }
+        ensures undamaged { IsTrue (D.honest self.old.disk) → IsErrOf result (Damaged 0) → (t : Table)
+            → StandsFor K self.old.capacity (D.seen self.old.disk) t → ⊥ }
         ensures bytes { IsTrue (D.honest self.old.disk) → (IsErrOf result ReadFault → ⊥) → self.new.page ≡ page_of 0 (D.seen self.old.disk) }
         ensures read_fault { IsErrOf result ReadFault → Rose (D.read_count self.old.disk) (D.read_count self.new.disk) }
         ensures no_other { IfErr result (λ e. (e ≡ ReadFault) ⊎ (e ≡ Damaged 0)) }
@@ -213,16 +218,23 @@ impl<D: Disk> Lone<D> {
     ) -> Result<Answer<Option<Data>>, Refusal>
         requires { K ≤ 4 }
         ensures at { IfOk result (λ a. a.at ≡ self.old.front + 1) }
-        ensures value { IsTrue (D.honest self.old.disk) → (t : Table) → StandsFor K self.old.capacity (D.seen self.old.disk) t → IfOk result (λ a. a.value ≡ get t row.now.key.at) }
-        ensures taken { IsTrue (D.honest self.old.disk) → (t : Table) → StandsFor K self.old.capacity (D.seen self.old.disk) t → OnOk result (takes self.old.capacity t row.now.key.at ≡ true) }
-        ensures stands { IsTrue (D.honest self.old.disk) → (t : Table) → StandsFor K self.old.capacity (D.seen self.old.disk) t → OnOk result (StandsFor K self.old.capacity (D.seen self.new.disk) (with_data t row.now.key.at row.now.value)) }
-        ensures found { IsTrue (D.honest self.old.disk) → IfOk result (λ a. Answers K self.old.capacity (page_of 0 (D.seen self.old.disk)) row.now.key.at a.value) }
-        ensures no_cut { IsTrue (D.honest self.old.disk) → (t : Table) → StandsFor K self.old.capacity (D.seen self.old.disk) t → IsErrOf result (NoCut 1 0) → takes self.old.capacity t row.now.key.at ≡ false }
+        ensures value { IsTrue (D.honest self.old.disk) → (t : Table) → StandsFor K self.old.capacity (D.seen self.old.disk) t
+            → IfOk result (λ a. a.value ≡ get t row.now.key.at) }
+        ensures taken { IsTrue (D.honest self.old.disk) → (t : Table) → StandsFor K self.old.capacity (D.seen self.old.disk) t
+            → OnOk result (takes self.old.capacity t row.now.key.at ≡ true) }
+        ensures stands { IsTrue (D.honest self.old.disk) → (t : Table) → StandsFor K self.old.capacity (D.seen self.old.disk) t
+            → OnOk result (StandsFor K self.old.capacity (D.seen self.new.disk) (with_data t row.now.key.at row.now.value)) }
+        ensures found { IsTrue (D.honest self.old.disk)
+            → IfOk result (λ a. Answers K self.old.capacity (page_of 0 (D.seen self.old.disk)) row.now.key.at a.value) }
+        ensures no_cut { IsTrue (D.honest self.old.disk) → (t : Table) → StandsFor K self.old.capacity (D.seen self.old.disk) t
+            → IsErrOf result (NoCut 1 0) → takes self.old.capacity t row.now.key.at ≡ false }
         ensures holds { IfOk result (λ a. HoldsPut K self.old.capacity self.new.page row.now.key.at row.now.value a.value) }
         ensures full { IsErrOf result (NoCut 1 0) → IsFull K self.old.capacity self.new.page row.now.key.at }
         ensures damaged { IsErrOf result (Damaged 0) → IsDamaged K self.old.capacity self.new.page row.now.key.at }
-        ensures undamaged { IsTrue (D.honest self.old.disk) → IsErrOf result (Damaged 0) → (t : Table) → StandsFor K self.old.capacity (D.seen self.old.disk) t → ⊥ }
-        ensures bytes { IsTrue (D.honest self.old.disk) → IfErr result (λ e. (e ≡ NoCut 1 0) ⊎ (e ≡ Damaged 0) → self.new.page ≡ page_of 0 (D.seen self.old.disk)) }
+        ensures undamaged { IsTrue (D.honest self.old.disk) → IsErrOf result (Damaged 0) → (t : Table)
+            → StandsFor K self.old.capacity (D.seen self.old.disk) t → ⊥ }
+        ensures bytes { IsTrue (D.honest self.old.disk)
+            → IfErr result (λ e. (e ≡ NoCut 1 0) ⊎ (e ≡ Damaged 0) → self.new.page ≡ page_of 0 (D.seen self.old.disk)) }
         ensures worn { (n : ℕ) → IsErrOf result (Worn n) → (n ≡ self.old.front) × (worn_at ≤ self.old.front) }
         ensures unworn { worn_at ≤ self.old.front → IsErrOf result (Worn self.old.front) }
         ensures read_fault { IsErrOf result ReadFault → Rose (D.read_count self.old.disk) (D.read_count self.new.disk) }

@@ -37,8 +37,10 @@ fn print_reply<const K: usize, O: Sink>(
     lines: &mut Text,
 ) -> Result<(), SinkFailed>
     requires { K ≤ 4 }
-    ensures kept { IsTrue (O.tells out.old) → OnOk result (O.received out.new ++ lines.new.items ≡ O.received out.old ++ (lines.old.items ++ flat_map ended (reply_lines reply.now))) }
-    ensures front { IsTrue (O.tells out.old) → Adds (O.received out.old) (O.received out.new) (lines.old.items ++ flat_map ended (reply_lines reply.now)) }
+    ensures kept { IsTrue (O.tells out.old)
+        → OnOk result (O.received out.new ++ lines.new.items ≡ O.received out.old ++ (lines.old.items ++ flat_map ended (reply_lines reply.now))) }
+    ensures front { IsTrue (O.tells out.old)
+        → Adds (O.received out.old) (O.received out.new) (lines.old.items ++ flat_map ended (reply_lines reply.now)) }
     ensures tells { O.tells out.new ≡ O.tells out.old }
     ensures cause { HasCause (O.fault_count out.old) (O.fault_count out.new) result }
 {

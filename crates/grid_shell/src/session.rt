@@ -34,8 +34,12 @@ fn reply_to_get<const K: usize, D: Disk, L: Ledger>(
     steps: &mut Steps<L>,
 ) -> Result<Reply<K>, Refusal>
     requires { K ≤ 4 }
-    ensures told { IsTrue (D.honest lone.old.disk) → (s : State K) → StandsAt K lone.old.capacity (D.seen lone.old.disk) lone.old.front s → lone.old.front < worn_at → IfOk result (λ r. r ≡ (answer (undivided K lone.old.capacity) s (ask.Get key.now)).reply) }
-    ensures stands { IsTrue (D.honest lone.old.disk) → (s : State K) → StandsAt K lone.old.capacity (D.seen lone.old.disk) lone.old.front s → lone.old.front < worn_at → OnOk result (StandsAt K lone.old.capacity (D.seen lone.new.disk) lone.new.front (answer (undivided K lone.old.capacity) s (ask.Get key.now)).state) }
+    ensures told { IsTrue (D.honest lone.old.disk) → (s : State K)
+        → StandsAt K lone.old.capacity (D.seen lone.old.disk) lone.old.front s → lone.old.front < worn_at
+        → IfOk result (λ r. r ≡ (answer (undivided K lone.old.capacity) s (ask.Get key.now)).reply) }
+    ensures stands { IsTrue (D.honest lone.old.disk) → (s : State K)
+        → StandsAt K lone.old.capacity (D.seen lone.old.disk) lone.old.front s → lone.old.front < worn_at
+        → OnOk result (StandsAt K lone.old.capacity (D.seen lone.new.disk) lone.new.front (answer (undivided K lone.old.capacity) s (ask.Get key.now)).state) }
     ensures kind { IfOk result (IsReplyTo (ask.Get key.now)) }
     ensures judged { IfOk result (Judges lone.old.capacity lone.new.page (ask.Get key.now)) }
     ensures front { lone.new.front ≤ lone.old.front + 1 }
@@ -58,8 +62,12 @@ fn reply_to_put<const K: usize, D: Disk, L: Ledger>(
     steps: &mut Steps<L>,
 ) -> Result<Reply<K>, Refusal>
     requires { K ≤ 4 }
-    ensures told { IsTrue (D.honest lone.old.disk) → (s : State K) → StandsAt K lone.old.capacity (D.seen lone.old.disk) lone.old.front s → lone.old.front < worn_at → IfOk result (λ r. r ≡ (answer (undivided K lone.old.capacity) s (ask.Put row.now)).reply) }
-    ensures stands { IsTrue (D.honest lone.old.disk) → (s : State K) → StandsAt K lone.old.capacity (D.seen lone.old.disk) lone.old.front s → lone.old.front < worn_at → OnOk result (StandsAt K lone.old.capacity (D.seen lone.new.disk) lone.new.front (answer (undivided K lone.old.capacity) s (ask.Put row.now)).state) }
+    ensures told { IsTrue (D.honest lone.old.disk) → (s : State K)
+        → StandsAt K lone.old.capacity (D.seen lone.old.disk) lone.old.front s → lone.old.front < worn_at
+        → IfOk result (λ r. r ≡ (answer (undivided K lone.old.capacity) s (ask.Put row.now)).reply) }
+    ensures stands { IsTrue (D.honest lone.old.disk) → (s : State K)
+        → StandsAt K lone.old.capacity (D.seen lone.old.disk) lone.old.front s → lone.old.front < worn_at
+        → OnOk result (StandsAt K lone.old.capacity (D.seen lone.new.disk) lone.new.front (answer (undivided K lone.old.capacity) s (ask.Put row.now)).state) }
     ensures kind { IfOk result (IsReplyTo (ask.Put row.now)) }
     ensures judged { IfOk result (Judges lone.old.capacity lone.new.page (ask.Put row.now)) }
     ensures front { lone.new.front ≤ lone.old.front + 1 }
@@ -83,8 +91,12 @@ fn reply_to<const K: usize, D: Disk, L: Ledger>(
 ) -> Result<Reply<K>, Refusal>
     requires few { K ≤ 4 }
     requires taken { IsTrue (is_taken line.now) }
-    ensures told { IsTrue (D.honest lone.old.disk) → (s : State K) → StandsAt K lone.old.capacity (D.seen lone.old.disk) lone.old.front s → lone.old.front < worn_at → IfOk result (λ r. r ≡ (answer (undivided K lone.old.capacity) s line.now.request).reply) }
-    ensures stands { IsTrue (D.honest lone.old.disk) → (s : State K) → StandsAt K lone.old.capacity (D.seen lone.old.disk) lone.old.front s → lone.old.front < worn_at → OnOk result (StandsAt K lone.old.capacity (D.seen lone.new.disk) lone.new.front (answer (undivided K lone.old.capacity) s line.now.request).state) }
+    ensures told { IsTrue (D.honest lone.old.disk) → (s : State K)
+        → StandsAt K lone.old.capacity (D.seen lone.old.disk) lone.old.front s → lone.old.front < worn_at
+        → IfOk result (λ r. r ≡ (answer (undivided K lone.old.capacity) s line.now.request).reply) }
+    ensures stands { IsTrue (D.honest lone.old.disk) → (s : State K)
+        → StandsAt K lone.old.capacity (D.seen lone.old.disk) lone.old.front s → lone.old.front < worn_at
+        → OnOk result (StandsAt K lone.old.capacity (D.seen lone.new.disk) lone.new.front (answer (undivided K lone.old.capacity) s line.now.request).state) }
     ensures kind { IfOk result (IsReplyTo line.now.request) }
     ensures judged { IfOk result (Judges lone.old.capacity lone.new.page line.now.request) }
     ensures front { lone.new.front ≤ lone.old.front + 1 }
@@ -117,8 +129,12 @@ pub fn answer_all<const K: usize, D: Disk, L: Ledger>(
     requires empty { replies.old.items ≡ [] }
     requires none { vec_len replies.old ≡ 0 }
     requires room { length asked.now ≤ vec_capacity replies.old }
-    ensures told { IsTrue (D.honest lone.old.disk) → (s : State K) → StandsAt K lone.old.capacity (D.seen lone.old.disk) lone.old.front s → lone.old.front + length asked.now ≤ worn_at → OnOk result (replies.new.items ≡ answers (undivided K lone.old.capacity) s (requests asked.now)) }
-    ensures stands { IsTrue (D.honest lone.old.disk) → (s : State K) → StandsAt K lone.old.capacity (D.seen lone.old.disk) lone.old.front s → lone.old.front + length asked.now ≤ worn_at → OnOk result (StandsAt K lone.old.capacity (D.seen lone.new.disk) lone.new.front (afterwards (undivided K lone.old.capacity) s (requests asked.now))) }
+    ensures told { IsTrue (D.honest lone.old.disk) → (s : State K)
+        → StandsAt K lone.old.capacity (D.seen lone.old.disk) lone.old.front s → lone.old.front + length asked.now ≤ worn_at
+        → OnOk result (replies.new.items ≡ answers (undivided K lone.old.capacity) s (requests asked.now)) }
+    ensures stands { IsTrue (D.honest lone.old.disk) → (s : State K)
+        → StandsAt K lone.old.capacity (D.seen lone.old.disk) lone.old.front s → lone.old.front + length asked.now ≤ worn_at
+        → OnOk result (StandsAt K lone.old.capacity (D.seen lone.new.disk) lone.new.front (afterwards (undivided K lone.old.capacity) s (requests asked.now))) }
     ensures kinds { OnOk result (AreRepliesTo asked.now replies.new.items) }
     ensures fault { IfErr result (λ e. IsDiskFault e (D.read_count lone.old.disk) (D.read_count lone.new.disk) (D.write_count lone.old.disk) (D.write_count lone.new.disk)) }
     ensures reads { D.read_count lone.old.disk ≤ D.read_count lone.new.disk }

@@ -10,8 +10,8 @@ abbrev pub SpellsOneShape : Type 0
 SpellsOneShape = (page : List ℕ) (s t : Shape) → SpellsShape page s → SpellsShape page t → s ≡ t
 
 -- no bytes are those of two roots whose numbers are in range
-abbrev pub SpellOneRoot : Type 0
-SpellOneRoot = (K : ℕ) (r q : RootFields) → K ≤ 4 → AreInRange K r → AreInRange K q → root_bytes r ≡ root_bytes q → r ≡ q
+abbrev pub SpellsOneRoot : Type 0
+SpellsOneRoot = (K : ℕ) (r q : RootFields) → K ≤ 4 → AreInRange K r → AreInRange K q → root_bytes r ≡ root_bytes q → r ≡ q
 
 -- one root, one index and one list of entries
 pub record IsOneList (root other index place : ℕ) (entries more : List ℕ) : Type 0 where
