@@ -3,6 +3,7 @@
 use crate::*;
 use grid_types::{Answer, Data, Key, Record, Refusal, Reply, Rows, Stat};
 use std::alloc::{AllocError, Global};
+use std::test::Fail;
 
 /// All parts of a reply, one behind the other.
 fn printed(alloc: Global, reply: &Reply<2>) -> Result<Vec<u8>, AllocError> {
@@ -30,10 +31,9 @@ fn rows(alloc: Global) -> Result<Rows<2>, AllocError> {
     Ok(rows)
 }
 
-#[test]
-fn prints_replies(rt: HostRuntime) {
-    let listed = rows(rt.alloc()).expect(&rt, "memory");
-    for (reply, want) in [
+/// Replies to updates and gets, and their texts.
+fn told() -> [(Reply<2>, &'static str); 6] {
+    [
         (Reply::Put(Answer { at: 0, value: None }), "@0 new\n"),
         (
             Reply::Put(Answer {
@@ -58,39 +58,59 @@ fn prints_replies(rt: HostRuntime) {
             }),
             "@3 = -\n",
         ),
-        (
-            Reply::Listed(Answer {
-                at: 9,
-                value: listed,
-            }),
-            "@9 rows 2\n1,2 0aff\n18446744073709551615,0 -\n",
-        ),
+    ]
+}
+
+/// Other replies, and their texts.
+fn stated() -> [(Reply<2>, &'static str); 5] {
+    let stat = Stat {
+        records: 1,
+        cells: 2,
+        buckets: 3,
+        free: 4,
+    };
+    let refusal = Refusal::NoCut {
+        cells: 6,
+        boundaries: 8,
+    };
+    [
         (Reply::Counted(Answer { at: 9, value: 12 }), "@9 count 12\n"),
         (
-            Reply::Stood(Answer {
-                at: 7,
-                value: Stat {
-                    records: 1,
-                    cells: 2,
-                    buckets: 3,
-                    free: 4,
-                },
-            }),
+            Reply::Stood(Answer { at: 7, value: stat }),
             "@7 stat records 1 cells 2 buckets 3 free 4\n",
         ),
         (Reply::Rooted(5), "@5 rooted\n"),
-        (
-            Reply::Refused(Refusal::NoCut {
-                cells: 6,
-                boundaries: 8,
-            }),
-            "nocut cells 6 boundaries 8\n",
-        ),
+        (Reply::Refused(refusal), "nocut cells 6 boundaries 8\n"),
         (Reply::Refused(Refusal::Worn { count: 5 }), "worn 5\n"),
-    ] {
-        let text = printed(rt.alloc(), &reply).expect(&rt, "memory");
-        assert_eq!(rt; text.as_slice(), want.as_bytes());
+    ]
+}
+
+/// Whether this is the text of a reply.
+fn prints(alloc: Global, reply: &Reply<2>, want: &str) -> Result<bool, AllocError> {
+    let text = printed(alloc, reply)?;
+    Ok(text.as_slice() == want.as_bytes())
+}
+
+#[test]
+fn prints_replies(rt: HostRuntime) -> Result<(), Fail> {
+    for (reply, want) in told() {
+        assert!(rt; prints(rt.alloc(), &reply, want)?, "{want}");
     }
+    for (reply, want) in stated() {
+        assert!(rt; prints(rt.alloc(), &reply, want)?, "{want}");
+    }
+    Ok(())
+}
+
+#[test]
+fn prints_a_listing(rt: HostRuntime) -> Result<(), Fail> {
+    let listed = Reply::Listed(Answer {
+        at: 9,
+        value: rows(rt.alloc())?,
+    });
+    let want = "@9 rows 2\n1,2 0aff\n18446744073709551615,0 -\n";
+    assert!(rt; prints(rt.alloc(), &listed, want)?);
+    Ok(())
 }
 
 #[test]

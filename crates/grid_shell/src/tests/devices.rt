@@ -1,6 +1,6 @@
 //! Calls that fail, of the bay and the streams, and of the disk.
 
-use super::{Case, NO_TEXT, PRINTED, SCRIPT, WELL, show};
+use super::{Case, NO_TEXT, PRINTED, SCRIPT, Shown, WELL, show};
 use crate::ending::Ending;
 use crate::run::run_grid;
 use crate::work::run_disk;
@@ -79,83 +79,51 @@ fn what_is_told_changes_no_status(rt: HostRuntime) -> Result<(), Fail> {
     Ok(())
 }
 
+/// Three puts, of which the bucket takes two.
+const FULL: &[u8] = b"put 3,7 01\nput 5,1 02\nput 9,9 03\n";
+
+const FULL_PRINTED: &[u8] = b"client 1\n@1 new\n@2 new\nnocut cells 1 boundaries 0\nfront 2\n";
+
+/// A run of a script in which a call of the bay fails: its status, and what it prints and tells.
+fn bay_fails(rt: &HostRuntime, script: &[u8], call: u64) -> Result<Shown, Fail> {
+    show(
+        rt,
+        &Case {
+            script,
+            bay_call: call,
+            ..WELL
+        },
+    )
+}
+
+/// The bay makes the file, and takes it back.
 #[test]
-fn failed_calls_have_their_status(rt: HostRuntime) -> Result<(), Fail> {
-    let full = b"put 3,7 01\nput 5,1 02\nput 9,9 03\n".as_slice();
-    let full_printed =
-        b"client 1\n@1 new\n@2 new\nnocut cells 1 boundaries 0\nfront 2\n".as_slice();
+fn a_failed_call_of_the_bay_has_its_status(rt: HostRuntime) -> Result<(), Fail> {
     let faulty = b"grid: script line 1\n".as_slice();
-    for (case, status, printed, told) in [
-        (
-            Case {
-                bay_call: 1,
-                ..WELL
-            },
-            5,
-            NO_TEXT,
-            DEVICE,
-        ),
-        (
-            Case {
-                bay_call: 2,
-                ..WELL
-            },
-            5,
-            PRINTED,
-            DEVICE,
-        ),
-        (
-            Case {
-                bay_call: 3,
-                ..WELL
-            },
-            0,
-            PRINTED,
-            NO_TEXT,
-        ),
-        (
-            Case {
-                script: full,
-                out_call: 1,
-                ..WELL
-            },
-            7,
-            NO_TEXT,
-            NO_TEXT,
-        ),
-        (
-            Case {
-                script: full,
-                bay_call: 2,
-                ..WELL
-            },
-            7,
-            full_printed,
-            NO_TEXT,
-        ),
-        (
-            Case {
-                script: b"stat",
-                bay_call: 2,
-                ..WELL
-            },
-            3,
-            NO_TEXT,
-            faulty,
-        ),
-        (
-            Case {
-                script: b"stat",
-                bay_call: 1,
-                ..WELL
-            },
-            5,
-            NO_TEXT,
-            DEVICE,
-        ),
+    for (script, call, status, printed, told) in [
+        (SCRIPT, 1, 5, NO_TEXT, DEVICE),
+        (SCRIPT, 2, 5, PRINTED, DEVICE),
+        (SCRIPT, 3, 0, PRINTED, NO_TEXT),
+        (FULL, 2, 7, FULL_PRINTED, NO_TEXT),
+        (b"stat".as_slice(), 2, 3, NO_TEXT, faulty),
+        (b"stat".as_slice(), 1, 5, NO_TEXT, DEVICE),
     ] {
-        assert!(rt; show(&rt, &case)?.is(status, printed, told));
+        assert!(rt; bay_fails(&rt, script, call)?.is(status, printed, told));
     }
+    Ok(())
+}
+
+#[test]
+fn a_refused_line_outweighs_a_failed_output(rt: HostRuntime) -> Result<(), Fail> {
+    let shown = show(
+        &rt,
+        &Case {
+            script: FULL,
+            out_call: 1,
+            ..WELL
+        },
+    )?;
+    assert!(rt; shown.is(7, NO_TEXT, NO_TEXT));
     Ok(())
 }
 
