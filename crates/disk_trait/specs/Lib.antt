@@ -1,5 +1,6 @@
 pub mod Causes
 pub mod Disk
+pub mod Calls
 pub mod Moments
 pub mod Bay
 pub mod Streams

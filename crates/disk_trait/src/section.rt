@@ -1,10 +1,10 @@
 //! A page that is read, and a write that is on the disk when it is done.
-ghost use Rattle.std.specs.Prelude.{◌≡◌, ◌≤◌, ◌+◌, ◌*◌, ◌↔◌, List, ℕ, IsTrue, length, OnOk, IfErr, IsErrOf};
+ghost use Rattle.std.specs.Prelude.{◌≡◌, ◌≤◌, ◌+◌, ◌*◌, IsTrue, length, OnOk, IfErr, IsErrOf};
 ghost use Rattle.grid_types.specs.declared.refusal.Refusal.TheVariants.{ReadFault};
 ghost use Rattle.grid_types.specs.Pages.{page_of};
 ghost use Rattle.disk_trait.specs.Causes.{HasCause, Rose};
-ghost use Rattle.disk_trait.specs.Disk.{Only, Follows, Agrees, Holds, InOnePage};
-ghost use Rattle.disk_trait.specs.Moments.{After, LeavesOnly};
+ghost use Rattle.disk_trait.specs.Disk.{Agrees, Holds, InOnePage};
+ghost use Rattle.disk_trait.specs.Calls.{OnlyReads, Changes, IsSynced};
 
 use crate::{Disk, DiskFailed, Steps};
 use grid_types::Refusal;
@@ -21,15 +21,9 @@ pub fn read_page<D: Disk, L: Ledger>(
     requires { page * 4096 + 4096 ≤ D.extent disk.old }
     ensures ticks { steps.new ≡ steps.old + 1 }
     ensures bytes { IsTrue (D.honest disk.old) → OnOk result (out.new ≡ page_of page (D.seen disk.old)) }
-    ensures seen { IsTrue (D.honest disk.old) → D.seen disk.new ≡ D.seen disk.old }
-    ensures crash { IsTrue (D.honest disk.old) → (c : List ℕ) → D.may_leave disk.new c ↔ D.may_leave disk.old c }
-    ensures moments { IsTrue (D.honest disk.old) → LeavesOnly D.moment D.left_since disk.old disk.new (D.may_leave disk.old) }
-    ensures extent { D.extent disk.new ≡ D.extent disk.old }
-    ensures honest { D.honest disk.new ≡ D.honest disk.old }
+    ensures same { OnlyReads D.Disk disk.old disk.new }
     ensures read_fault { IsErrOf result ReadFault → Rose (D.read_count disk.old) (D.read_count disk.new) }
     ensures no_other { IfErr result (λ e. e ≡ ReadFault) }
-    ensures reads { D.read_count disk.old ≤ D.read_count disk.new }
-    ensures writes { D.write_count disk.old ≤ D.write_count disk.new }
 {
     match disk.read(page, out, steps) {
         Ok(()) => Ok(()),
@@ -41,14 +35,9 @@ pub fn read_page<D: Disk, L: Ledger>(
 pub fn write_through<D: Disk>(disk: &mut D, at: u64, bytes: &[u8]) -> Result<(), DiskFailed>
     requires { InOnePage at (length bytes.now) (D.extent disk.old) }
     ensures written { IsTrue (D.honest disk.old) → OnOk result (Holds (D.seen disk.old) at bytes.now (D.seen disk.new)) }
-    ensures durable { IsTrue (D.honest disk.old) → OnOk result (Only (D.seen disk.new) (D.may_leave disk.new)) }
-    ensures outside { IsTrue (D.honest disk.old) → Agrees at (length bytes.now) (D.seen disk.old) (D.seen disk.new) }
-    ensures crash { IsTrue (D.honest disk.old) → Follows (Agrees at (length bytes.now)) (D.may_leave disk.old) (D.may_leave disk.new) }
-    ensures moments { IsTrue (D.honest disk.old) → LeavesOnly D.moment D.left_since disk.old disk.new (After (Agrees at (length bytes.now)) (D.may_leave disk.old)) }
-    ensures extent { D.extent disk.new ≡ D.extent disk.old }
-    ensures honest { D.honest disk.new ≡ D.honest disk.old }
+    ensures durable { OnOk result (IsSynced D.Disk disk.new) }
+    ensures changes { Changes D.Disk (Agrees at (length bytes.now)) disk.old disk.new }
     ensures cause { HasCause (D.write_count disk.old) (D.write_count disk.new) result }
-    ensures other { D.read_count disk.old ≤ D.read_count disk.new }
 {
     match disk.write(at, bytes) {
         Ok(()) => {}

@@ -47,11 +47,3 @@ module _ (s : Shape) (half slot : ℕ) (lawful : IsTrue (is_shape s)) (two : hal
 
   pub gate_elsewhere : (c d e : List ℕ) → PageStep s half slot c d → GateStep s half slot d e → AgreesOutside (slot_ranges s half slot) c e
   gate_elsewhere c d e a b = outside_then _ c d e (page_elsewhere c d a) (outside_more _ _ d e (λ i o. (o.1.0, tt)) (outside_one _ _ d e b))
-
-  pub writing_elsewhere : (old : List ℕ → Type 0) (c : List ℕ) → After (PageStep s half slot) old c → After (AgreesOutside (slot_ranges s half slot)) old c
-  writing_elsewhere old c from = (from.0, from.1, page_elsewhere from.0 c from.2)
-
-  pub opening_elsewhere : (old mid : List ℕ → Type 0) → ((c : List ℕ) → mid c → After (PageStep s half slot) old c) → (c : List ℕ) → After (GateStep s half slot) mid c → After (AgreesOutside (slot_ranges s half slot)) old c
-  opening_elsewhere old mid came c from =
-      let since = came from.0 from.1 in
-      (since.0, since.1, gate_elsewhere since.0 from.0 c since.2 from.2)

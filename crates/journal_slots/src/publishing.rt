@@ -2,8 +2,8 @@
 ghost use Rattle.std.specs.Prelude.{◌≡◌, ◌<◌, ◌≤◌, ◌*◌, IsTrue, OnOk};
 ghost use Rattle.grid_types.specs.Shapes.{is_shape, file_pages};
 ghost use Rattle.disk_trait.specs.Causes.{HasCause};
-ghost use Rattle.disk_trait.specs.Disk.{Only};
-ghost use Rattle.disk_trait.specs.Moments.{After, Always, AgreesOutside, LeavesOnly};
+ghost use Rattle.disk_trait.specs.Calls.{Changes, IsSynced};
+ghost use Rattle.disk_trait.specs.Moments.{Always, AgreesOutside, LeavesOnly};
 ghost use Rattle.grid_model.specs.Lawful.{IsBatch};
 ghost use Rattle.journal_slots.specs.Batches.{batch_of};
 ghost use Rattle.journal_slots.specs.Publishing.{IsClosed, IsWhole, IsPublished, slot_ranges};
@@ -29,15 +29,10 @@ pub fn publish_batch<const K: usize, D: Disk>(
     requires batch { IsBatch (batch_of batch.now) }
     ensures whole { IsTrue (D.honest disk.old) → Always (D.may_leave disk.old) (IsClosed layout.now.shape half slot)
         → LeavesOnly D.moment D.left_since disk.old disk.new (IsWhole layout.now.shape half slot (batch_of batch.now)) }
-    ensures elsewhere { IsTrue (D.honest disk.old) → LeavesOnly D.moment D.left_since disk.old disk.new
-        (After (AgreesOutside (slot_ranges layout.now.shape half slot)) (D.may_leave disk.old)) }
     ensures published { IsTrue (D.honest disk.old) → OnOk result (IsPublished layout.now.shape half slot (batch_of batch.now) (D.seen disk.new)) }
-    ensures durable { IsTrue (D.honest disk.old) → OnOk result (Only (D.seen disk.new) (D.may_leave disk.new)) }
-    ensures outside { IsTrue (D.honest disk.old) → AgreesOutside (slot_ranges layout.now.shape half slot) (D.seen disk.old) (D.seen disk.new) }
-    ensures extent { D.extent disk.new ≡ D.extent disk.old }
-    ensures honest { D.honest disk.new ≡ D.honest disk.old }
+    ensures durable { OnOk result (IsSynced D.Disk disk.new) }
+    ensures changes { Changes D.Disk (AgreesOutside (slot_ranges layout.now.shape half slot)) disk.old disk.new }
     ensures cause { HasCause (D.write_count disk.old) (D.write_count disk.new) result }
-    ensures other { D.read_count disk.old ≤ D.read_count disk.new }
 {
     match write_batch(disk, layout, half, slot, batch) {
         Ok(()) => {}

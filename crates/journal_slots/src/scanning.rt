@@ -1,10 +1,10 @@
 //! The batches of a half of the journal.
-ghost use Rattle.std.specs.Prelude.{◌≡◌, ◌<◌, ◌≤◌, ◌+◌, ◌*◌, [], ◌↔◌, List, ℕ, IsTrue, IfOk, IfErr, OnOk, IsErrOf, length};
+ghost use Rattle.std.specs.Prelude.{◌≡◌, ◌<◌, ◌≤◌, ◌+◌, ◌*◌, [], List, ℕ, IsTrue, IfOk, IfErr, OnOk, IsErrOf, length};
 ghost use Rattle.grid_types.specs.declared.refusal.Refusal.TheVariants.{ReadFault, Damaged, NoMemory};
 ghost use Rattle.grid_types.specs.Pages.{page_of};
 ghost use Rattle.grid_types.specs.Shapes.{is_shape, file_pages, slot_page};
 ghost use Rattle.disk_trait.specs.Causes.{Rose};
-ghost use Rattle.disk_trait.specs.Moments.{LeavesOnly};
+ghost use Rattle.disk_trait.specs.Calls.{OnlyReads};
 ghost use Rattle.grid_model.specs.Spellings as model;
 ghost use Rattle.grid_model.specs.Images.{HasGatesOf, open_slots_of};
 ghost use Rattle.journal_slots.specs.Scans.{AreBatchesOn, IsScan, SpellsSome, IsFirstBadSlot, IsFirstBad, IsRefusalOfScan, IsMore, SpellsOf, IsToKeep, WantsMemory};
@@ -32,13 +32,7 @@ fn scan_slot<const K: usize, D: Disk, L: Ledger>(
     ensures read_fault { IsErrOf result ReadFault → Rose (D.read_count disk.old) (D.read_count disk.new) }
     ensures no_other { IfErr result IsRefusalOfScan }
     ensures ticks { steps.new ≡ steps.old + 1 }
-    ensures seen { IsTrue (D.honest disk.old) → D.seen disk.new ≡ D.seen disk.old }
-    ensures crash { IsTrue (D.honest disk.old) → (c : List ℕ) → D.may_leave disk.new c ↔ D.may_leave disk.old c }
-    ensures moments { IsTrue (D.honest disk.old) → LeavesOnly D.moment D.left_since disk.old disk.new (D.may_leave disk.old) }
-    ensures extent { D.extent disk.new ≡ D.extent disk.old }
-    ensures honest { D.honest disk.new ≡ D.honest disk.old }
-    ensures reads { D.read_count disk.old ≤ D.read_count disk.new }
-    ensures writes { D.write_count disk.old ≤ D.write_count disk.new }
+    ensures same { OnlyReads D.Disk disk.old disk.new }
 {
     let mut bytes = [0; 4096];
     match read_page(disk, page as u64, &mut bytes, steps) {
@@ -81,13 +75,7 @@ fn scan_slots<const K: usize, D: Disk, L: Ledger>(
     ensures ticks { steps.old ≤ steps.new }
     ensures all { OnOk result (steps.new ≡ steps.old + length (open_slots_of gates.now half)) }
     ensures most { steps.new ≤ steps.old + layout.now.shape.slots }
-    ensures seen { IsTrue (D.honest disk.old) → D.seen disk.new ≡ D.seen disk.old }
-    ensures crash { IsTrue (D.honest disk.old) → (c : List ℕ) → D.may_leave disk.new c ↔ D.may_leave disk.old c }
-    ensures moments { IsTrue (D.honest disk.old) → LeavesOnly D.moment D.left_since disk.old disk.new (D.may_leave disk.old) }
-    ensures extent { D.extent disk.new ≡ D.extent disk.old }
-    ensures honest { D.honest disk.new ≡ D.honest disk.old }
-    ensures reads { D.read_count disk.old ≤ D.read_count disk.new }
-    ensures writes { D.write_count disk.old ≤ D.write_count disk.new }
+    ensures same { OnlyReads D.Disk disk.old disk.new }
 {
     for slot in 0..layout.shape.slots {
         if !is_open(gates[slot as usize]) {
@@ -134,13 +122,7 @@ pub fn scan_half<const K: usize, D: Disk, L: Ledger>(
     ensures least { steps.old + 1 ≤ steps.new }
     ensures most { steps.new ≤ steps.old + 1 + layout.now.shape.slots }
     ensures ticks { IsTrue (D.honest disk.old) → OnOk result ((gates : List ℕ) → HasGatesOf layout.now.shape (D.seen disk.old) half gates → steps.new ≡ steps.old + 1 + length (open_slots_of gates half)) }
-    ensures seen { IsTrue (D.honest disk.old) → D.seen disk.new ≡ D.seen disk.old }
-    ensures crash { IsTrue (D.honest disk.old) → (c : List ℕ) → D.may_leave disk.new c ↔ D.may_leave disk.old c }
-    ensures moments { IsTrue (D.honest disk.old) → LeavesOnly D.moment D.left_since disk.old disk.new (D.may_leave disk.old) }
-    ensures extent { D.extent disk.new ≡ D.extent disk.old }
-    ensures honest { D.honest disk.new ≡ D.honest disk.old }
-    ensures reads { D.read_count disk.old ≤ D.read_count disk.new }
-    ensures writes { D.write_count disk.old ≤ D.write_count disk.new }
+    ensures same { OnlyReads D.Disk disk.old disk.new }
 {
     let mut bytes = [0; 4096];
     let gate_page = layout.gate_page(half);

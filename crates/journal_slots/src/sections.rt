@@ -3,8 +3,8 @@
 ghost use Rattle.std.specs.Prelude.{◌≡◌, ◌<◌, ◌≤◌, ◌+◌, ◌*◌, ◌/◌, ◌%◌, ◌∷◌, [], IsTrue, OnOk, replicate};
 ghost use Rattle.grid_types.specs.Shapes.{is_shape, file_pages, slot_page, slot_gate_at};
 ghost use Rattle.disk_trait.specs.Causes.{HasCause};
-ghost use Rattle.disk_trait.specs.Disk.{Only, Agrees, Holds};
-ghost use Rattle.disk_trait.specs.Moments.{After, LeavesOnly};
+ghost use Rattle.disk_trait.specs.Disk.{Agrees, Holds};
+ghost use Rattle.disk_trait.specs.Calls.{Changes, IsSynced};
 ghost use Rattle.grid_model.specs.Lawful.{IsBatch};
 ghost use Rattle.journal_slots.specs.Batches.{batch_of};
 ghost use Rattle.journal_slots.specs.Publishing.{HasBatch};
@@ -45,14 +45,9 @@ pub fn write_batch<const K: usize, D: Disk>(
     requires few { K ≤ 4 }
     requires batch { IsBatch (batch_of batch.now) }
     ensures spelled { IsTrue (D.honest disk.old) → OnOk result (HasBatch layout.now.shape half slot (batch_of batch.now) (D.seen disk.new)) }
-    ensures durable { IsTrue (D.honest disk.old) → OnOk result (Only (D.seen disk.new) (D.may_leave disk.new)) }
-    ensures outside { IsTrue (D.honest disk.old) → Agrees (slot_page layout.now.shape half slot * 4096) 4096 (D.seen disk.old) (D.seen disk.new) }
-    ensures moments { IsTrue (D.honest disk.old) → LeavesOnly D.moment D.left_since disk.old disk.new
-        (After (Agrees (slot_page layout.now.shape half slot * 4096) 4096) (D.may_leave disk.old)) }
-    ensures extent { D.extent disk.new ≡ D.extent disk.old }
-    ensures honest { D.honest disk.new ≡ D.honest disk.old }
+    ensures durable { OnOk result (IsSynced D.Disk disk.new) }
+    ensures changes { Changes D.Disk (Agrees (slot_page layout.now.shape half slot * 4096) 4096) disk.old disk.new }
     ensures cause { HasCause (D.write_count disk.old) (D.write_count disk.new) result }
-    ensures other { D.read_count disk.old ≤ D.read_count disk.new }
 {
     let mut page = [0; 4096];
     encode(batch, &mut page);
@@ -73,14 +68,9 @@ pub fn open_gate<D: Disk>(
     requires inside { slot < layout.now.shape.slots }
     requires size { file_pages layout.now.shape * 4096 ≤ D.extent disk.old }
     ensures opened { IsTrue (D.honest disk.old) → OnOk result (Holds (D.seen disk.old) (slot_gate_at layout.now.shape half slot) (1 ∷ []) (D.seen disk.new)) }
-    ensures durable { IsTrue (D.honest disk.old) → OnOk result (Only (D.seen disk.new) (D.may_leave disk.new)) }
-    ensures outside { IsTrue (D.honest disk.old) → Agrees (slot_gate_at layout.now.shape half slot) 1 (D.seen disk.old) (D.seen disk.new) }
-    ensures moments { IsTrue (D.honest disk.old) → LeavesOnly D.moment D.left_since disk.old disk.new
-        (After (Agrees (slot_gate_at layout.now.shape half slot) 1) (D.may_leave disk.old)) }
-    ensures extent { D.extent disk.new ≡ D.extent disk.old }
-    ensures honest { D.honest disk.new ≡ D.honest disk.old }
+    ensures durable { OnOk result (IsSynced D.Disk disk.new) }
+    ensures changes { Changes D.Disk (Agrees (slot_gate_at layout.now.shape half slot) 1) disk.old disk.new }
     ensures cause { HasCause (D.write_count disk.old) (D.write_count disk.new) result }
-    ensures other { D.read_count disk.old ≤ D.read_count disk.new }
 {
     let at = gate_at(layout, half, slot);
     write_through(disk, at, &[1])
@@ -98,15 +88,10 @@ pub fn clear_half<D: Disk>(
     requires inside { used ≤ layout.now.shape.slots }
     requires size { file_pages layout.now.shape * 4096 ≤ D.extent disk.old }
     ensures cleared { IsTrue (D.honest disk.old) → OnOk result (Holds (D.seen disk.old) (slot_gate_at layout.now.shape half 0) (replicate used 0) (D.seen disk.new)) }
-    ensures durable { IsTrue (D.honest disk.old) → 1 ≤ used → OnOk result (Only (D.seen disk.new) (D.may_leave disk.new)) }
-    ensures outside { IsTrue (D.honest disk.old) → Agrees (slot_gate_at layout.now.shape half 0) used (D.seen disk.old) (D.seen disk.new) }
-    ensures moments { IsTrue (D.honest disk.old) → LeavesOnly D.moment D.left_since disk.old disk.new
-        (After (Agrees (slot_gate_at layout.now.shape half 0) used) (D.may_leave disk.old)) }
+    ensures durable { 1 ≤ used → OnOk result (IsSynced D.Disk disk.new) }
+    ensures changes { Changes D.Disk (Agrees (slot_gate_at layout.now.shape half 0) used) disk.old disk.new }
     ensures nothing { used ≡ 0 → disk.new ≡ disk.old }
-    ensures extent { D.extent disk.new ≡ D.extent disk.old }
-    ensures honest { D.honest disk.new ≡ D.honest disk.old }
     ensures cause { HasCause (D.write_count disk.old) (D.write_count disk.new) result }
-    ensures other { D.read_count disk.old ≤ D.read_count disk.new }
 {
     if used == 0 {
         return Ok(());

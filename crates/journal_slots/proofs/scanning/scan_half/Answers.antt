@@ -27,8 +27,8 @@ returns-in-Ok-scan_slots-clause-found g c = λ h.
     record {
       gates = gates;
       spelled = gates_read s image c.args.half c.gate_page-gate_page.result c.slots_of-slots.result out (c.in-Ok.ensures.bytes h) c.gate_page-gate_page.ensures.value c.slots_of-slots.ensures.value c.slots_of-slots.ensures.few c.read_page.array_long (c.is_gate_page.ensures.gates c.if-not-is_gate_page.false);
-      found = subst (λ (i : List ℕ). AreBatchesOn s i (open_slots_of gates c.args.half) c.args.session c.scan_slots.new.found) (c.in-Ok.ensures.seen h)
-          (subst (λ (gs : List ℕ). AreBatchesOn s (g.D.Disk.seen c.read_page.new.disk) (open_slots_of gs c.args.half) c.args.session c.scan_slots.new.found) (part_is c.slots_of-slots.result out) (c.in-Ok-scan_slots.ensures.found (c.in-Ok.ensures.honest ∙ h)));
+      found = subst (λ (i : List ℕ). AreBatchesOn s i (open_slots_of gates c.args.half) c.args.session c.scan_slots.new.found) (c.in-Ok.ensures.same.seen h)
+          (subst (λ (gs : List ℕ). AreBatchesOn s (g.D.Disk.seen c.read_page.new.disk) (open_slots_of gs c.args.half) c.args.session c.scan_slots.new.found) (part_is c.slots_of-slots.result out) (c.in-Ok-scan_slots.ensures.found (c.in-Ok.ensures.same.honest ∙ h)));
     }
 
 pub returns-in-Ok-scan_slots-clause-only : goal.returns-in-Ok-scan_slots-clause-only
@@ -53,8 +53,8 @@ returns-in-Err-scan_slots-clause-damaged g c = λ h p is.
     inr (record {
       gates = gates;
       spelled = gates_read s image c.args.half c.gate_page-gate_page.result c.slots_of-slots.result out (c.in-Ok.ensures.bytes h) c.gate_page-gate_page.ensures.value c.slots_of-slots.ensures.value c.slots_of-slots.ensures.few c.read_page.array_long (c.is_gate_page.ensures.gates c.if-not-is_gate_page.false);
-      first = subst (λ (i : List ℕ). IsFirstBadSlot g.row.K s i c.args.half gates p) (c.in-Ok.ensures.seen h)
-          (subst (λ (gs : List ℕ). IsFirstBadSlot g.row.K s (g.D.Disk.seen c.read_page.new.disk) c.args.half gs p) (part_is c.slots_of-slots.result out) (c.in-Err-scan_slots.ensures.damaged (c.in-Ok.ensures.honest ∙ h) p (same_error c.in-Err-scan_slots.why _ is)));
+      first = subst (λ (i : List ℕ). IsFirstBadSlot g.row.K s i c.args.half gates p) (c.in-Ok.ensures.same.seen h)
+          (subst (λ (gs : List ℕ). IsFirstBadSlot g.row.K s (g.D.Disk.seen c.read_page.new.disk) c.args.half gs p) (part_is c.slots_of-slots.result out) (c.in-Err-scan_slots.ensures.damaged (c.in-Ok.ensures.same.honest ∙ h) p (same_error c.in-Err-scan_slots.why _ is)));
     })
 
 pub returns-in-Err-scan_slots-clause-no_memory : goal.returns-in-Err-scan_slots-clause-no_memory
@@ -65,6 +65,6 @@ returns-in-Err-scan_slots-clause-no_memory g c = λ h is.
     record {
       gates = gates;
       spelled = gates_read s (g.D.Disk.seen c.args.disk.now) c.args.half c.gate_page-gate_page.result c.slots_of-slots.result out (c.in-Ok.ensures.bytes h) c.gate_page-gate_page.ensures.value c.slots_of-slots.ensures.value c.slots_of-slots.ensures.few c.read_page.array_long (c.is_gate_page.ensures.gates c.if-not-is_gate_page.false);
-      kept = subst (λ (i : List ℕ). IsToKeep g.row.K s i c.args.half gates c.args.session) (c.in-Ok.ensures.seen h)
-          (subst (λ (gs : List ℕ). IsToKeep g.row.K s (g.D.Disk.seen c.read_page.new.disk) c.args.half gs c.args.session) (part_is c.slots_of-slots.result out) (c.in-Err-scan_slots.ensures.no_memory (c.in-Ok.ensures.honest ∙ h) (same_error c.in-Err-scan_slots.why _ is)));
+      kept = subst (λ (i : List ℕ). IsToKeep g.row.K s i c.args.half gates c.args.session) (c.in-Ok.ensures.same.seen h)
+          (subst (λ (gs : List ℕ). IsToKeep g.row.K s (g.D.Disk.seen c.read_page.new.disk) c.args.half gs c.args.session) (part_is c.slots_of-slots.result out) (c.in-Err-scan_slots.ensures.no_memory (c.in-Ok.ensures.same.honest ∙ h) (same_error c.in-Err-scan_slots.why _ is)));
     }

@@ -2,7 +2,7 @@ use Rattle.std.proofs.Common.{◌≡◌, ◌≢◌, ◌+◌, ℕ, List, length, 
 use Rattle.std.proofs.lemmas.Bool.{false≢true}
 use Rattle.grid_types.specs.Pages.{page_of}
 use Rattle.grid_types.specs.Shapes.{slot_page}
-use Rattle.disk_trait.proofs.Moments.{joined}
+use Rattle.disk_trait.proofs.Calls.{reads_then}
 use Rattle.journal_slots.specs.Scans.{AreBatchesOn, SpellsSome, SpellsOf}
 use Rattle.journal_slots.proofs.OpenSlots.{open_count, open_same, open_few, found_more, before_more, before_same}
 use Rattle.journal_slots.proofs.scanning.scan_slots.Goals as goal
@@ -13,14 +13,8 @@ loop-slot-preserved-then-not-is_open g c =
     let closed : slice_index c.args.gates.now c.loop-slot.slot ≢ 1 = λ e. false≢true (sym c.if-not-is_open.true ∙ c.is_open.ensures.1 e) in
     let same = open_same c.args.gates.now c.args.half c.loop-slot.slot closed in
     record {
-      honest = was.honest;
-      extent = was.extent;
-      reads = was.reads;
-      writes = was.writes;
+      same = was.same;
       steps = was.steps ∙ ap (λ (slots : List (ℕ × ℕ)). c.args.steps.now + length slots) (sym same);
-      seen = was.seen;
-      crash = was.crash;
-      moments = was.moments;
       found = λ h. subst (λ (slots : List (ℕ × ℕ)). AreBatchesOn c.args.layout.now.shape (g.D.Disk.seen c.args.disk.now) slots c.args.session c.loop-slot.found) (sym same) (was.found h);
       before = λ h. before_same c.args.layout.now.shape (g.D.Disk.seen c.args.disk.now) c.args.session c.args.gates.now c.args.half c.loop-slot.slot closed (was.before h);
     }
@@ -33,30 +27,24 @@ loop-slot-preserved g c =
     let image = g.D.Disk.seen c.args.disk.now in
     let one : slice_index c.args.gates.now c.loop-slot.slot ≡ 1 = c.is_open.ensures.0 c.if-not-is_open.false in
     record {
-      honest = now.honest ∙ was.honest;
-      extent = now.extent ∙ was.extent;
-      reads = omega (arith, now.reads, was.reads);
-      writes = omega (arith, now.writes, was.writes);
+      same = reads_then was.same now.same;
       steps = omega (arith, now.ticks, was.steps, open_count c.args.gates.now c.args.half c.loop-slot.slot one);
-      seen = λ h. now.seen (was.honest ∙ h) ∙ was.seen h;
-      crash = λ h k. let a = now.crash (was.honest ∙ h) k in let b = was.crash h k in (λ x. b.0 (a.0 x), λ x. a.1 (b.1 x));
-      moments = λ h. joined g.D.Disk.moment g.D.Disk.left_since c.args.disk.now c.loop-slot.disk c.scan_slot.new.disk _ _ _ (was.moments h) (now.moments (was.honest ∙ h)) (λ i x. x) (λ i x. (was.crash h i).0 x);
-      found = λ h. found_more s image c.args.session c.args.gates.now c.args.half c.loop-slot.slot c.slot_page-page.result (g.D.Disk.seen c.loop-slot.disk) c.loop-slot.found c.scan_slot.new.found (was.seen h) c.slot_page-page.ensures.value one
-          (now.found (was.honest ∙ h)) (was.found h);
-      before = λ h. before_more s image c.args.session c.args.gates.now c.args.half c.loop-slot.slot c.slot_page-page.result (g.D.Disk.seen c.loop-slot.disk) c.loop-slot.found c.scan_slot.new.found (was.seen h) c.slot_page-page.ensures.value
-          (now.found (was.honest ∙ h)) (was.before h);
+      found = λ h. found_more s image c.args.session c.args.gates.now c.args.half c.loop-slot.slot c.slot_page-page.result (g.D.Disk.seen c.loop-slot.disk) c.loop-slot.found c.scan_slot.new.found (was.same.seen h) c.slot_page-page.ensures.value one
+          (now.found (was.same.honest ∙ h)) (was.found h);
+      before = λ h. before_more s image c.args.session c.args.gates.now c.args.half c.loop-slot.slot c.slot_page-page.result (g.D.Disk.seen c.loop-slot.disk) c.loop-slot.found c.scan_slot.new.found (was.same.seen h) c.slot_page-page.ensures.value
+          (now.found (was.same.honest ∙ h)) (was.before h);
     }
 
 pub returns-in-Err-clause-damaged : goal.returns-in-Err-clause-damaged
 returns-in-Err-clause-damaged g c = λ h p is.
     let was = c.loop-slot.invariant in
-    let bad = c.in-Err.ensures.damaged (was.honest ∙ h) p is in
+    let bad = c.in-Err.ensures.damaged (was.same.honest ∙ h) p is in
     record {
       slot = c.loop-slot.slot;
       inside = c.loop-slot-test.true;
       opened = c.is_open.ensures.0 c.if-not-is_open.false;
       page_is = bad.0 ∙ c.slot_page-page.ensures.value;
-      none = λ some. bad.1 (subst (λ (b : List ℕ). SpellsSome g.row.K b) (λ i. page_of (bad.0 i) (sym (was.seen h) i)) some);
+      none = λ some. bad.1 (subst (λ (b : List ℕ). SpellsSome g.row.K b) (λ i. page_of (bad.0 i) (sym (was.same.seen h) i)) some);
       before = was.before h;
     }
 
@@ -64,12 +52,12 @@ pub returns-in-Err-clause-no_memory : goal.returns-in-Err-clause-no_memory
 returns-in-Err-clause-no_memory g c = λ h is.
     let was = c.loop-slot.invariant in
     let bytes : page_of c.slot_page-page.result (g.D.Disk.seen c.loop-slot.disk) ≡ page_of (slot_page c.args.layout.now.shape c.args.half c.loop-slot.slot) (g.D.Disk.seen c.args.disk.now) =
-    λ i. page_of (c.slot_page-page.ensures.value i) (was.seen h i) in
+    λ i. page_of (c.slot_page-page.ensures.value i) (was.same.seen h i) in
     record {
       slot = c.loop-slot.slot;
       inside = c.loop-slot-test.true;
       opened = c.is_open.ensures.0 c.if-not-is_open.false;
-      spelled = subst (λ (b : List ℕ). SpellsOf g.row.K b c.args.session) bytes (c.in-Err.ensures.no_memory (was.honest ∙ h) is);
+      spelled = subst (λ (b : List ℕ). SpellsOf g.row.K b c.args.session) bytes (c.in-Err.ensures.no_memory (was.same.honest ∙ h) is);
       before = was.before h;
     }
 

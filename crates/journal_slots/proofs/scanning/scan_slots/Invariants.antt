@@ -1,22 +1,16 @@
-use Rattle.std.proofs.Common.{◌≡◌, ◌≤◌, ◌<◌, ◌+◌, ℕ, List, length, slice_index}
-use Rattle.std.specs.Prelude.{IsTrue, ◌↔◌}
+use Rattle.std.proofs.Common.{◌≡◌, ◌<◌, ◌+◌, ℕ, List, length, slice_index}
+use Rattle.std.specs.Prelude.{IsTrue}
 use Rattle.grid_types.specs.Pages.{page_of}
 use Rattle.grid_types.specs.Shapes.{slot_page}
-use Rattle.disk_trait.specs.Moments.{LeavesOnly}
+use Rattle.disk_trait.specs.Calls.{OnlyReads}
 use Rattle.journal_slots.specs.Scans.{AreBatchesOn, SpellsSome}
 use Rattle.journal_slots.proofs.OpenSlots.{open_below}
 use Rattle.journal_slots.proofs.scanning.scan_slots.Given as goal
 
 abbrev pub invariant-loop-slot : goal.invariant-loop-slot
 invariant-loop-slot g l = record {
-  honest : g.D.Disk.honest l.disk ≡ g.D.Disk.honest l.initial.disk;
-  extent : g.D.Disk.extent l.disk ≡ g.D.Disk.extent l.initial.disk;
-  reads : g.D.Disk.read_count l.initial.disk ≤ g.D.Disk.read_count l.disk;
-  writes : g.D.Disk.write_count l.initial.disk ≤ g.D.Disk.write_count l.disk;
+  same : OnlyReads g.D.Disk l.initial.disk l.disk;
   steps : l.steps ≡ l.initial.steps + length (open_below l.gates l.half l.slot);
-  seen : IsTrue (g.D.Disk.honest l.initial.disk) → g.D.Disk.seen l.disk ≡ g.D.Disk.seen l.initial.disk;
-  crash : IsTrue (g.D.Disk.honest l.initial.disk) → (c : List ℕ) → g.D.Disk.may_leave l.disk c ↔ g.D.Disk.may_leave l.initial.disk c;
-  moments : IsTrue (g.D.Disk.honest l.initial.disk) → LeavesOnly g.D.Disk.moment g.D.Disk.left_since l.initial.disk l.disk (g.D.Disk.may_leave l.initial.disk);
   found : IsTrue (g.D.Disk.honest l.initial.disk) → AreBatchesOn l.layout.shape (g.D.Disk.seen l.initial.disk) (open_below l.gates l.half l.slot) l.session l.found;
   before : IsTrue (g.D.Disk.honest l.initial.disk) → (i : ℕ) → i < l.slot → slice_index l.gates i ≡ 1 → SpellsSome g.row.K (page_of (slot_page l.layout.shape l.half i) (g.D.Disk.seen l.initial.disk));
 }

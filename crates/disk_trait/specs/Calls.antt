@@ -1,0 +1,29 @@
+-- What a call leaves of a disk, each as one record over the trait's ghost members. Where a fact holds of a disk that tells its content alone, it says so itself.
+use Rattle.std.specs.Prelude.{◌≡◌, ◌≤◌, ◌↔◌, ℕ, List, IsTrue}
+use Rattle.disk_trait.specs.declared.disk.Disk.{Ghosts}
+use Rattle.disk_trait.specs.Disk.{Follows, Only}
+use Rattle.disk_trait.specs.Moments.{After, LeavesOnly}
+
+-- a call that only reads: what reads give and what a crash may leave stay, at each moment of it too, and no count falls
+pub record OnlyReads {D : Type 0} (g : Ghosts D) (old new : D) : Type 0 where
+  pub extent : g.extent new ≡ g.extent old
+  pub honest : g.honest new ≡ g.honest old
+  pub reads : g.read_count old ≤ g.read_count new
+  pub writes : g.write_count old ≤ g.write_count new
+  pub seen : IsTrue (g.honest old) → g.seen new ≡ g.seen old
+  pub crash : IsTrue (g.honest old) → (c : List ℕ) → g.may_leave new c ↔ g.may_leave old c
+  pub moments : IsTrue (g.honest old) → LeavesOnly g.moment g.left_since old new (g.may_leave old)
+
+-- a call that changes images by this step alone: what reads give, what a crash now may leave, and what one at any moment of it might have left; no count falls
+pub record Changes {D : Type 0} (g : Ghosts D) (step : List ℕ → List ℕ → Type 0) (old new : D) : Type 0 where
+  pub extent : g.extent new ≡ g.extent old
+  pub honest : g.honest new ≡ g.honest old
+  pub reads : g.read_count old ≤ g.read_count new
+  pub writes : g.write_count old ≤ g.write_count new
+  pub outside : IsTrue (g.honest old) → step (g.seen old) (g.seen new)
+  pub crash : IsTrue (g.honest old) → Follows step (g.may_leave old) (g.may_leave new)
+  pub moments : IsTrue (g.honest old) → LeavesOnly g.moment g.left_since old new (After step (g.may_leave old))
+
+-- all is on the disk: a crash leaves what reads give
+pub record IsSynced {D : Type 0} (g : Ghosts D) (disk : D) : Type 0 where
+  pub only : IsTrue (g.honest disk) → Only (g.seen disk) (g.may_leave disk)
