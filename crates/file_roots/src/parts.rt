@@ -5,6 +5,7 @@ ghost use Rattle.grid_types.specs.Shapes.{is_shape, area_pages, file_pages, head
 ghost use Rattle.grid_model.specs.Scales.{scale_of};
 ghost use Rattle.grid_model.specs.Images.{area_page, half_of_scale, HasArea};
 ghost use Rattle.linear_scales.specs.Limited.{scales_of};
+ghost use Rattle.disk_trait.specs.Calls.{Changes};
 ghost use Rattle.disk_trait.specs.Causes.{HasCause};
 ghost use Rattle.disk_trait.specs.Disk.{Agrees, Follows};
 ghost use Rattle.disk_trait.specs.Moments.{After, Always, LeavesOnly};
@@ -81,12 +82,7 @@ pub fn write_part<const K: usize, D: Disk>(
     requires size { file_pages layout.now.shape * 4096 ≤ D.extent disk.old }
     ensures written { IsTrue (D.honest disk.old)
         → OnOk result (page_of (table_page layout.now.shape (header_page root.now.number) i) (D.seen disk.new) ≡ area_page root.now.number (area_of root.now) i) }
-    ensures outside { IsTrue (D.honest disk.old)
-        → Agrees (table_page layout.now.shape (header_page root.now.number) i * 4096) 4096 (D.seen disk.old) (D.seen disk.new) }
-    ensures crash { IsTrue (D.honest disk.old)
-        → Follows (Agrees (table_page layout.now.shape (header_page root.now.number) i * 4096) 4096) (D.may_leave disk.old) (D.may_leave disk.new) }
-    ensures moments { IsTrue (D.honest disk.old)
-        → LeavesOnly D.moment D.left_since disk.old disk.new (After (Agrees (table_page layout.now.shape (header_page root.now.number) i * 4096) 4096) (D.may_leave disk.old)) }
+    ensures changes { Changes D.Disk (Agrees (table_page layout.now.shape (header_page root.now.number) i * 4096) 4096) disk.old disk.new }
     ensures ready { IsTrue (D.honest disk.old)
         → (old : Option WholeRoot)
         → ComesNext old root.now.number
@@ -97,10 +93,7 @@ pub fn write_part<const K: usize, D: Disk>(
         → ComesNext old root.now.number
         → Always (D.may_leave disk.old) (IsReady layout.now.shape root.now.number old)
         → LeavesOnly D.moment D.left_since disk.old disk.new (ShowsOld layout.now.shape old) }
-    ensures extent { D.extent disk.new ≡ D.extent disk.old }
-    ensures honest { D.honest disk.new ≡ D.honest disk.old }
     ensures cause { HasCause (D.write_count disk.old) (D.write_count disk.new) result }
-    ensures other { D.read_count disk.old ≤ D.read_count disk.new }
 {
     let mut page = [0; 4096];
     encode_part(root, i, &mut page);
@@ -120,16 +113,8 @@ pub fn write_parts<const K: usize, D: Disk>(
     requires size { file_pages layout.now.shape * 4096 ≤ D.extent disk.old }
     ensures written { IsTrue (D.honest disk.old)
         → OnOk result (HasArea layout.now.shape (D.seen disk.new) (fields_of root.now) (area_of root.now)) }
-    ensures outside { IsTrue (D.honest disk.old)
-        → Within (area_range layout.now.shape (header_page root.now.number)) (D.seen disk.old) (D.seen disk.new) }
-    ensures crash { IsTrue (D.honest disk.old)
-        → Follows (Within (area_range layout.now.shape (header_page root.now.number))) (D.may_leave disk.old) (D.may_leave disk.new) }
-    ensures moments { IsTrue (D.honest disk.old)
-        → LeavesOnly D.moment D.left_since disk.old disk.new (After (Within (area_range layout.now.shape (header_page root.now.number))) (D.may_leave disk.old)) }
-    ensures extent { D.extent disk.new ≡ D.extent disk.old }
-    ensures honest { D.honest disk.new ≡ D.honest disk.old }
+    ensures changes { Changes D.Disk (Within (area_range layout.now.shape (header_page root.now.number))) disk.old disk.new }
     ensures cause { HasCause (D.write_count disk.old) (D.write_count disk.new) result }
-    ensures other { D.read_count disk.old ≤ D.read_count disk.new }
 {
     for i in 0..layout.area_pages() {
         match write_part(disk, layout, root, i) {

@@ -2,8 +2,10 @@ use Rattle.std.proofs.Common.{◌≡◌, ◌≤◌, ◌*◌, ◌∙◌, ℕ, len
 use Rattle.std.proofs.lemmas.Result.{on_ok_weaker}
 use Rattle.grid_types.specs.Pages.{page_of}
 use Rattle.grid_types.specs.Shapes.{header_page, table_page}
-use Rattle.disk_trait.specs.Disk.{Agrees, Follows}
-use Rattle.disk_trait.proofs.Moments.{stepped, weakened}
+use Rattle.disk_trait.specs.Disk.{Agrees}
+use Rattle.disk_trait.specs.Calls.{Changes}
+use Rattle.disk_trait.proofs.Calls.{changes_write}
+use Rattle.disk_trait.proofs.Moments.{weakened}
 use Rattle.disk_trait.proofs.Pages.{agrees_same, page_written}
 use Rattle.file_roots.proofs.Writing.{lengths}
 use Rattle.file_roots.proofs.Headers.{header_two}
@@ -25,31 +27,26 @@ returns-clause-written g c = λ h.
     let low : c.from-at.result * 4096 ≤ length seen = omega (arith, c.from-at.ensures, c.table_page.ensures.inside, c.requires.size, g.met.D.Disk.whole c.args.disk.now h) in
     on_ok_weaker _ (λ w. ap (λ (p : ℕ). page_of p end) (sym page) ∙ page_written seen c.from-at.result _ end low c.encode_part.array_long w ∙ c.encode_part.ensures) (c.write.ensures.written h)
 
-pub returns-clause-moments : goal.returns-clause-moments
-returns-clause-moments g c = λ h.
-    let before = g.D.Disk.may_leave c.args.disk.now in
-    let now = g.D.Disk.may_leave c.write.new.self in
+pub returns-clause-changes : goal.returns-clause-changes
+returns-clause-changes g c =
     let at = table_page c.args.layout.now.shape (header_page c.args.root.now.number) c.args.i * 4096 in
     let is : c.from-at.result * 4096 ≡ at = ap (λ (n : ℕ). n * 4096) (c.from-at.ensures ∙ c.table_page.ensures.value) in
-    let follows : Follows (Agrees at 4096) before now = subst (λ n. Follows (Agrees at n) before now) c.encode_part.array_long (subst (λ p. Follows (Agrees p (length c.encode_part.new.page)) before now) is (c.write.ensures.crash h)) in
-    stepped g.D.Disk.moment g.D.Disk.left_since (Agrees at 4096) c.args.disk.now c.write.new.self before now (λ i. agrees_same _ _ i) (λ i left. g.met.D.Disk.only_now c.args.disk.now i h left) (c.write.ensures.time h) follows
+    let w = c.write.ensures in
+    subst (λ n. Changes g.D.Disk (Agrees at n) c.args.disk.now c.write.new.self) c.encode_part.array_long
+    (subst (λ p. Changes g.D.Disk (Agrees p (length c.encode_part.new.page)) c.args.disk.now c.write.new.self) is
+    (changes_write (agrees_same _ _) (λ k h left. g.met.D.Disk.only_now c.args.disk.now k h left) w.extent w.honest w.other w.cause.later w.outside w.crash w.time))
 
 pub returns-clause-ready : goal.returns-clause-ready
 returns-clause-ready g c = λ h old comes ready.
     let s = c.args.layout.now.shape in
     let number = c.args.root.now.number in
     let area = header_page number in
-    let before = g.D.Disk.may_leave c.args.disk.now in
-    let now = g.D.Disk.may_leave c.write.new.self in
-    let at = table_page s area c.args.i * 4096 in
-    let is : c.from-at.result * 4096 ≡ at = ap (λ (n : ℕ). n * 4096) (c.from-at.ensures ∙ c.table_page.ensures.value) in
-    let follows : Follows (Agrees at 4096) before now = subst (λ n. Follows (Agrees at n) before now) c.encode_part.array_long (subst (λ p. Follows (Agrees p (length c.encode_part.new.page)) before now) is (c.write.ensures.crash h)) in
-    λ i may. let from = follows i may in while_parts s number c.requires.lawful old comes from.0 i (ready from.0 from.1) (part_within s area c.args.i from.0 i (header_two number) c.requires.inside from.2)
+    λ i may. let from = (returns-clause-changes g c).crash h i may in while_parts s number c.requires.lawful old comes from.0 i (ready from.0 from.1) (part_within s area c.args.i from.0 i (header_two number) c.requires.inside from.2)
 
 pub returns-clause-shows_old : goal.returns-clause-shows_old
 returns-clause-shows_old g c = λ h old comes ready.
     let s = c.args.layout.now.shape in
     let number = c.args.root.now.number in
     let area = header_page number in
-    weakened g.D.Disk.moment g.D.Disk.left_since c.args.disk.now c.write.new.self _ _ (returns-clause-moments g c h)
+    weakened g.D.Disk.moment g.D.Disk.left_since c.args.disk.now c.write.new.self _ _ ((returns-clause-changes g c).moments h)
     (λ i from. shows_old s number old i comes (while_parts s number c.requires.lawful old comes from.0 i (ready from.0 from.1) (part_within s area c.args.i from.0 i (header_two number) c.requires.inside from.2)))
