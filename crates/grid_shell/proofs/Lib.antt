@@ -14,3 +14,4 @@ pub mod Sessions
 pub mod Taking
 pub mod Undivided
 pub mod Worst
+pub mod Served

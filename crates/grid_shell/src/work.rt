@@ -6,6 +6,8 @@ ghost use Rattle.disk_trait.specs.Streams.{Adds};
 ghost use Rattle.grid_script.specs.Taken.{AreTaken, IsScript, IsFault};
 ghost use Rattle.grid_shell.specs.Endings.{status_of, HasBegun, IsSilent, IsUnread};
 ghost use Rattle.grid_shell.specs.Standing.{begun, bucket_capacity, StandsAt};
+ghost use Rattle.grid_shell.specs.Serving.{Served, IsFresh, IsUntouched, held, received};
+ghost use Rattle.grid_shell.specs.Ran.{Ran, run_over};
 ghost use Rattle.grid_shell.specs.Runs.{printed, IsAnswered, IsPrinted, SomePrinted, HasFailed, OneRose, OneHigher, most_read, LostAtMost};
 
 use crate::ending::Ending;
@@ -50,29 +52,8 @@ pub fn answer_lines<D: Disk, O: Sink, L: Ledger>(
     requires some { 0 < L.parts }
     requires short { length asked.now ≤ MOST }
     requires taken { AreTaken asked.now }
-    ensures answered { IsTrue (D.honest lone.old.disk) → IsTrue (O.tells out.old)
-        → StandsAt ATTRIBUTES lone.old.capacity (D.seen lone.old.disk) lone.old.front (begun ATTRIBUTES) → lone.old.front ≡ 0
-        → (result ≡ Ending.Memory)
-        ⊎ HasFailed (D.read_count lone.new.disk) (D.write_count lone.new.disk)
-        ⊎ Rose (O.fault_count out.old) (O.fault_count out.new)
-        ⊎ IsAnswered lone.old.capacity asked.now (O.received out.old) (O.received out.new) (D.seen lone.new.disk) (status_of result) }
-    ensures done { result ≡ Ending.Done → IsTrue (D.honest lone.old.disk) → IsTrue (O.tells out.old)
-        → StandsAt ATTRIBUTES lone.old.capacity (D.seen lone.old.disk) lone.old.front (begun ATTRIBUTES) → lone.old.front ≡ 0
-        → IsAnswered lone.old.capacity asked.now (O.received out.old) (O.received out.new) (D.seen lone.new.disk) (status_of result) }
-    ensures front { IsTrue (D.honest lone.old.disk) → IsTrue (O.tells out.old)
-        → StandsAt ATTRIBUTES lone.old.capacity (D.seen lone.old.disk) lone.old.front (begun ATTRIBUTES) → lone.old.front ≡ 0
-        → Adds (O.received out.old) (O.received out.new) (printed lone.old.capacity asked.now) }
-    ensures shown { IsTrue (O.tells out.old)
-        → (IsSilent result × (O.received out.new ≡ O.received out.old))
-        ⊎ IsPrinted (Rose (O.fault_count out.old) (O.fault_count out.new)) (Rose (O.fault_count out.old) (O.fault_count out.new)) asked.now (O.received out.old) (O.received out.new) (status_of result) }
-    ensures device { result ≡ Ending.Device
-        → HasFailed (D.read_count lone.new.disk) (D.write_count lone.new.disk)
-        ⊎ Rose (O.fault_count out.old) (O.fault_count out.new) }
-    ensures counted { HasFailed (D.read_count lone.new.disk) (D.write_count lone.new.disk) ⊎ (O.fault_count out.old < O.fault_count out.new)
-        → (result ≢ Ending.Done) × (result ≢ Ending.Damaged) }
-    ensures failed { HasFailed (D.read_count lone.new.disk) (D.write_count lone.new.disk) → IsSilent result × (out.new ≡ out.old) }
-    ensures begun { HasBegun result }
-    ensures later { O.fault_count out.old ≤ O.fault_count out.new }
+    ensures { Served (IsFresh ATTRIBUTES (D.honest lone.old.disk) lone.old.capacity (D.seen lone.old.disk) lone.old.front) lone.old.capacity asked.now
+        (held D.Disk lone.new.disk) (received O.Sink out.old out.new) result }
 {
     let mut replies = match Vec::with_capacity(alloc, asked.len()) {
         Ok(replies) => replies,
@@ -104,25 +85,7 @@ fn open_and_answer<D: Disk, O: Sink>(
     requires page { 4096 ≤ D.extent disk }
     requires short { length script.now ≤ MOST }
     requires taken { AreTaken script.now }
-    ensures answered { IsTrue (D.honest disk) → IsTrue (O.tells out.old)
-        → (result.ending ≡ Ending.Memory)
-        ⊎ HasFailed (D.read_count result.disk) (D.write_count result.disk)
-        ⊎ Rose (O.fault_count out.old) (O.fault_count out.new)
-        ⊎ IsAnswered bucket_capacity script.now (O.received out.old) (O.received out.new) (D.seen result.disk) (status_of result.ending) }
-    ensures done { result.ending ≡ Ending.Done → IsTrue (D.honest disk) → IsTrue (O.tells out.old)
-        → IsAnswered bucket_capacity script.now (O.received out.old) (O.received out.new) (D.seen result.disk) (status_of result.ending) }
-    ensures front { IsTrue (D.honest disk) → IsTrue (O.tells out.old)
-        → Adds (O.received out.old) (O.received out.new) (printed bucket_capacity script.now) }
-    ensures shown { IsTrue (O.tells out.old)
-        → (IsSilent result.ending × (O.received out.new ≡ O.received out.old))
-        ⊎ IsPrinted (Rose (O.fault_count out.old) (O.fault_count out.new)) (Rose (O.fault_count out.old) (O.fault_count out.new)) script.now (O.received out.old) (O.received out.new) (status_of result.ending) }
-    ensures device { result.ending ≡ Ending.Device
-        → HasFailed (D.read_count result.disk) (D.write_count result.disk) ⊎ Rose (O.fault_count out.old) (O.fault_count out.new) }
-    ensures counted { HasFailed (D.read_count result.disk) (D.write_count result.disk) ⊎ (O.fault_count out.old < O.fault_count out.new)
-        → (result.ending ≢ Ending.Done) × (result.ending ≢ Ending.Damaged) }
-    ensures failed { HasFailed (D.read_count result.disk) (D.write_count result.disk) → IsSilent result.ending × (out.new ≡ out.old) }
-    ensures begun { HasBegun result.ending }
-    ensures later { O.fault_count out.old ≤ O.fault_count out.new }
+    ensures { Served (IsTrue (D.honest disk)) bucket_capacity script.now (held D.Disk result.disk) (received O.Sink out.old out.new) result.ending }
 {
     match Lone::begin::<ATTRIBUTES>(disk, CAPACITY) {
         Ok(lone) => {
@@ -185,35 +148,8 @@ pub fn run_disk<D: Disk, S: Source, O: Sink>(
     requires page { 4096 ≤ D.extent disk }
     requires unread { D.read_count disk ≡ 0 }
     requires unwritten { D.write_count disk ≡ 0 }
-    ensures answered { IsTrue (D.honest disk) → IsTrue (S.tells input.old) → IsTrue (O.tells out.old)
-        → (asked : List (Line ATTRIBUTES)) → IsScript (S.left input.old) asked
-        → (result.ending ≡ Ending.Memory)
-        ⊎ HasFailed (D.read_count result.disk) (D.write_count result.disk)
-        ⊎ OneRose ((S.fault_count input.old, S.fault_count input.new) ∷ (O.fault_count out.old, O.fault_count out.new) ∷ [])
-        ⊎ IsAnswered bucket_capacity asked (O.received out.old) (O.received out.new) (D.seen result.disk) (status_of result.ending) }
-    ensures done { result.ending ≡ Ending.Done → IsTrue (D.honest disk) → IsTrue (S.tells input.old) → IsTrue (O.tells out.old)
-        → (asked : List (Line ATTRIBUTES)) → IsScript (S.left input.old) asked
-        → IsAnswered bucket_capacity asked (O.received out.old) (O.received out.new) (D.seen result.disk) (status_of result.ending) }
-    ensures front { IsTrue (D.honest disk) → IsTrue (S.tells input.old) → IsTrue (O.tells out.old)
-        → (asked : List (Line ATTRIBUTES)) → IsScript (S.left input.old) asked
-        → Adds (O.received out.old) (O.received out.new) (printed bucket_capacity asked) }
-    ensures shown { IsTrue (O.tells out.old)
-        → (IsSilent result.ending × (O.received out.new ≡ O.received out.old))
-        ⊎ SomePrinted ATTRIBUTES (λ asked. IsTrue (S.tells input.old) → IsScript (S.left input.old) asked) (Rose (O.fault_count out.old) (O.fault_count out.new)) (Rose (O.fault_count out.old) (O.fault_count out.new)) (O.received out.old) (O.received out.new) (status_of result.ending) }
-    ensures script { IsTrue (S.tells input.old) → (n : ℕ) → result.ending ≡ Ending.BadScript n → IsFault ATTRIBUTES (S.left input.old) n }
-    ensures faulty { IsTrue (S.tells input.old) → (n : ℕ) → IsFault ATTRIBUTES (S.left input.old) n
-        → (result.ending ≡ Ending.BadScript n)
-        ⊎ (result.ending ≡ Ending.Memory)
-        ⊎ ((result.ending ≡ Ending.Device) × Rose (S.fault_count input.old) (S.fault_count input.new)) }
-    ensures quiet { (n : ℕ) → result.ending ≡ Ending.BadScript n → (out.new ≡ out.old) × (S.fault_count input.new ≡ S.fault_count input.old) }
-    ensures device { result.ending ≡ Ending.Device
-        → HasFailed (D.read_count result.disk) (D.write_count result.disk)
-        ⊎ OneRose ((S.fault_count input.old, S.fault_count input.new) ∷ (O.fault_count out.old, O.fault_count out.new) ∷ []) }
-    ensures counted { HasFailed (D.read_count result.disk) (D.write_count result.disk) ⊎ OneHigher ((S.fault_count input.old, S.fault_count input.new) ∷ (O.fault_count out.old, O.fault_count out.new) ∷ [])
-        → (result.ending ≢ Ending.Done) × (result.ending ≢ Ending.Damaged) }
-    ensures failed { HasFailed (D.read_count result.disk) (D.write_count result.disk) → IsSilent result.ending × (out.new ≡ out.old) }
-    ensures words { result.ending ≢ Ending.BadWords }
-    ensures lost { IsTrue (S.tells input.old) → LostAtMost most_read (S.left input.old) (S.left input.new) }
+    ensures ran { Ran (IsTrue (D.honest disk)) ⊥ (run_over D.Disk S.Source O.Sink result.disk (input.old, input.new) (out.old, out.new) result.ending) }
+    ensures failed { HasFailed (D.read_count result.disk) (D.write_count result.disk) → IsSilent result.ending × IsUntouched (received O.Sink out.old out.new) }
 {
     match read_lines(alloc, input) {
         Ok(script) => open_and_answer(alloc, disk, &script, out),
