@@ -1,11 +1,11 @@
 -- One call after another, and what a change of fewer bytes says of more.
-use Rattle.std.proofs.Common.{◌≡◌, ◌≤◌, ◌∙◌, List, ℕ, sym, subst, arith}
+use Rattle.std.proofs.Common.{◌≡◌, ◌≤◌, ◌∙◌, List, ℕ, refl, sym, subst, arith}
 use Rattle.std.specs.Prelude.{IsTrue}
 use Rattle.disk_trait.specs.declared.disk.Disk.{Ghosts}
 use Rattle.disk_trait.specs.Disk.{Follows, Elapses}
 use Rattle.disk_trait.specs.Moments.{After}
 use Rattle.disk_trait.specs.Calls.{OnlyReads, Changes}
-use Rattle.disk_trait.proofs.Moments.{joined, weakened, stepped, goes_on}
+use Rattle.disk_trait.proofs.Moments.{started, joined, weakened, stepped, goes_on}
 
 module _ {D : Type 0} {g : Ghosts D} where
   -- two calls that only read are one
@@ -77,4 +77,16 @@ module _ {D : Type 0} {g : Ghosts D} where
     outside = λ h. subst (λ (x : List ℕ). step (g.seen a) x) (sym (seen (r.honest ∙ h))) (r.outside h);
     crash = λ h k now. r.crash h k (crash (r.honest ∙ h) k now);
     moments = λ h. goes_on g.moment g.left_since a b c (After step (g.may_leave a)) (g.may_leave c) (r.moments h) (time (r.honest ∙ h)) (λ k now. r.crash h k (crash (r.honest ∙ h) k now));
+  }
+
+  -- before the first call nothing has changed
+  pub changes_none : {a : D} {step : List ℕ → List ℕ → Type 0} → ((x : List ℕ) → step x x) → ((k : List ℕ) → IsTrue (g.honest a) → g.left_since a (g.moment a) k → g.may_leave a k) → Changes g step a a
+  changes_none {a} {step} still law = record {
+    extent = refl;
+    honest = refl;
+    reads = omega arith;
+    writes = omega arith;
+    outside = λ h. still (g.seen a);
+    crash = λ h k now. (k, now, still k);
+    moments = λ h. started g.moment g.left_since a (After step (g.may_leave a)) (λ k left. (k, law k h left, still k));
   }

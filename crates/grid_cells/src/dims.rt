@@ -12,6 +12,7 @@ use crate::walk;
 #[derive(Clone, Copy, Debug, PartialEq, Eq)]
 pub struct Dims<const K: usize> {
     pub n: [u32; K],
+    pub ghost lawful: { IsDims n },
 }
 
 /// The product of the numbers.
@@ -61,7 +62,6 @@ fn cell_at<const K: usize>(numbers: &[u32; K], at: u32) -> [u32; K]
 impl<const K: usize> Dims<K> {
     /// How many cells there are.
     pub fn cells(&self) -> u32
-        requires { IsDims self.now.n }
         ensures { result ≡ product self.now.n }
     {
         product_of(&self.n)
@@ -69,8 +69,7 @@ impl<const K: usize> Dims<K> {
 
     /// The place of a cell in the directory.
     pub fn place(&self, cell: &[u32; K]) -> u32
-        requires dims { IsDims self.now.n }
-        requires cell { IsCell self.now.n cell.now }
+        requires { IsCell self.now.n cell.now }
         ensures value { result ≡ place self.now.n cell.now }
         ensures below { result < product self.now.n }
     {
@@ -79,8 +78,7 @@ impl<const K: usize> Dims<K> {
 
     /// The cell in a place of the directory.
     pub fn cell(&self, at: u32) -> [u32; K]
-        requires dims { IsDims self.now.n }
-        requires below { at < product self.now.n }
+        requires { at < product self.now.n }
         ensures cell { IsCell self.now.n result }
         ensures place { place self.now.n result ≡ at }
         ensures only { (other : List ℕ) → IsCell self.now.n other → place self.now.n other ≡ at → other ≡ result }
@@ -90,7 +88,6 @@ impl<const K: usize> Dims<K> {
 
     /// The cell of a box that follows this one in the order of places. The first cell of the box is `lo`, and the last is `hi`.
     pub fn next(&self, lo: &[u32; K], hi: &[u32; K], cell: &[u32; K]) -> Option<[u32; K]>
-        requires dims { IsDims self.now.n }
         requires highest { IsCell self.now.n hi.now }
         requires inside { InBox lo.now hi.now cell.now }
         ensures { MatchOption result (IsLast self.now.n lo.now hi.now cell.now) (Follows self.now.n lo.now hi.now cell.now) }

@@ -2,3 +2,4 @@ pub mod Each
 pub mod Numbers
 pub mod Places
 mod Vectors
+pub mod HalvesLemmas

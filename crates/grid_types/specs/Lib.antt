@@ -3,3 +3,4 @@ pub mod Regions
 pub mod Queries
 pub mod Shapes
 pub mod Pages
+pub mod Halves

@@ -1,19 +1,54 @@
 //! Where the pages of a file are.
-ghost use Rattle.std.specs.Prelude.{◌≡◌, ◌<◌, ◌≤◌, ◌+◌, ◌*◌, IsTrue};
+ghost use Rattle.std.specs.Prelude.{◌≡◌, ◌<◌, ◌≤◌, ◌+◌, ◌*◌, ◌↔◌, IsTrue, IsSome, IfSome};
 ghost use Rattle.grid_types.specs.Shapes.{is_shape, area_pages, file_pages, table_page, gate_page, slot_page, data_page};
+ghost use Rattle.grid_types.specs.Halves.{half_number};
 
-use crate::Shape;
+use crate::{Half, Shape};
 
 /// Where the pages of a file of a shape are. All page numbers are of the file.
 #[derive(Clone, Copy, Debug, PartialEq, Eq)]
 pub struct Layout {
     pub shape: Shape,
+    pub ghost lawful: { IsTrue (is_shape shape) },
 }
 
 impl Layout {
+    /// The layout of a shape, where that is lawful.
+    pub fn new(shape: Shape) -> Option<Layout>
+        ensures found { IsSome result ↔ IsTrue (is_shape shape) }
+        ensures value { IfSome result (λ l. l.shape ≡ shape) }
+    {
+        if shape.lawful() {
+            Some(Layout { shape })
+        } else {
+            None
+        }
+    }
+
+    /// The gate page of a half of the journal.
+    pub fn gate_page_of(&self, half: Half) -> u32
+        ensures value { result ≡ gate_page self.now.shape (half_number half) }
+        ensures inside { result < file_pages self.now.shape }
+        ensures small { result ≤ 10000 }
+    {
+        let pages = self.area_pages();
+        match half {
+            Half::First => 2 + 2 * pages,
+            Half::Second => 3 + 2 * pages + self.shape.slots,
+        }
+    }
+
+    /// The page of slot `i` of a half of the journal.
+    pub fn slot_page_of(&self, half: Half, i: u32) -> u32
+        requires { i < self.now.shape.slots }
+        ensures value { result ≡ slot_page self.now.shape (half_number half) i }
+        ensures inside { result < file_pages self.now.shape }
+    {
+        self.gate_page_of(half) + 1 + i
+    }
+
     /// How many pages a table area has.
     pub fn area_pages(&self) -> u32
-        requires { IsTrue (is_shape self.now.shape) }
         ensures value { result ≡ area_pages self.now.shape }
         ensures small { result ≤ 75 }
     {
@@ -22,7 +57,6 @@ impl Layout {
 
     /// Page `i` of a table area, 0 or 1.
     pub fn table_page(&self, area: u8, i: u32) -> u32
-        requires lawful { IsTrue (is_shape self.now.shape) }
         requires two { area < 2 }
         requires inside { i < area_pages self.now.shape }
         ensures value { result ≡ table_page self.now.shape area i }
@@ -34,8 +68,7 @@ impl Layout {
 
     /// The gate page of a half of the journal, 0 or 1.
     pub fn gate_page(&self, half: u8) -> u32
-        requires lawful { IsTrue (is_shape self.now.shape) }
-        requires two { half < 2 }
+        requires { half < 2 }
         ensures value { result ≡ gate_page self.now.shape half }
         ensures inside { result < file_pages self.now.shape }
         ensures small { result ≤ 10000 }
@@ -50,7 +83,6 @@ impl Layout {
 
     /// The page of slot `i` of a half of the journal, 0 or 1.
     pub fn slot_page(&self, half: u8, i: u32) -> u32
-        requires lawful { IsTrue (is_shape self.now.shape) }
         requires two { half < 2 }
         requires inside { i < self.now.shape.slots }
         ensures value { result ≡ slot_page self.now.shape half i }
@@ -61,8 +93,7 @@ impl Layout {
 
     /// The file's page of data page `i`.
     pub fn data_page(&self, i: u32) -> u32
-        requires lawful { IsTrue (is_shape self.now.shape) }
-        requires inside { i < self.now.shape.pages }
+        requires { i < self.now.shape.pages }
         ensures value { result ≡ data_page self.now.shape i }
         ensures inside { result < file_pages self.now.shape }
     {

@@ -4,6 +4,7 @@
 
 mod answer;
 mod data;
+mod half;
 mod key;
 mod layout;
 mod note;
@@ -19,6 +20,7 @@ mod words;
 
 pub use answer::Answer;
 pub use data::Data;
+pub use half::Half;
 pub use key::{Key, key_order};
 pub use layout::Layout;
 pub use note::{Cut, NoteOf, Noted};

@@ -7,6 +7,7 @@ use Rattle.grid_types.specs.declared.note.Noted.{Noted}
 use Rattle.grid_types.specs.declared.update.Record.{Record}
 use Rattle.grid_types.specs.declared.update.Update.{Update}
 use Rattle.grid_types.specs.declared.update.Update.TheVariants.{Put, Remove}
+use Rattle.grid_types.specs.declared.data.TheConstants.{LONGEST}
 use Rattle.page_fields.specs.Fields.{number}
 use Rattle.page_fields.specs.Corners.{CornerAt}
 use Rattle.grid_model.specs.Spellings.{Batch}
@@ -37,7 +38,7 @@ pub record PutAt (K : ℕ) (page : List ℕ) (at : ℕ) (r : Record K) : Type 0 
   pub kind : slice_index page at ≡ 1
   pub key : CornerAt K page (at + 16) r.key.at
   pub value : r.value ≡ take (slice_index page (at + 3)) (drop (at + 48) page)
-  pub short : slice_index page (at + 3) ≤ 40
+  pub short : slice_index page (at + 3) ≤ LONGEST
 
 -- a remove stands in the bytes of an update: its kind and its key
 pub record RemoveAt (K : ℕ) (page : List ℕ) (at : ℕ) (key : List ℕ) : Type 0 where

@@ -1,5 +1,6 @@
 //! The fields that an update and its note have in a page.
 ghost use Rattle.std.specs.Prelude.{◌≡◌, ◌≤◌, length};
+ghost use Rattle.grid_types.specs.declared.data.TheConstants.{LONGEST};
 ghost use Rattle.grid_model.specs.Notes.{key_of};
 ghost use Rattle.grid_model.specs.Spellings.{update_code, data_of, note_code, note_attribute, note_bucket, note_boundary};
 
@@ -28,7 +29,7 @@ pub fn key<const K: usize>(update: &Update<K>) -> &Key<K>
 /// The data of a put; a remove has none.
 pub fn bytes<const K: usize>(update: &Update<K>) -> &[u8]
     ensures value { result.now ≡ data_of update.now }
-    ensures short { length (data_of update.now) ≤ 40 }
+    ensures short { length (data_of update.now) ≤ LONGEST }
 {
     match update {
         Update::Put(row) => row.value.bytes(),

@@ -1,6 +1,6 @@
 //! A batch that is published: written, and then made to count.
 ghost use Rattle.std.specs.Prelude.{◌≡◌, ◌<◌, ◌≤◌, ◌*◌, IsTrue, OnOk};
-ghost use Rattle.grid_types.specs.Shapes.{is_shape, file_pages};
+ghost use Rattle.grid_types.specs.Shapes.{file_pages};
 ghost use Rattle.disk_trait.specs.Causes.{HasCause};
 ghost use Rattle.disk_trait.specs.Calls.{Changes, IsSynced};
 ghost use Rattle.disk_trait.specs.Moments.{Always, AgreesOutside, LeavesOnly};
@@ -21,7 +21,6 @@ pub fn publish_batch<const K: usize, D: Disk>(
     slot: u32,
     batch: &Batch<K>,
 ) -> Result<(), DiskFailed>
-    requires lawful { IsTrue (is_shape layout.now.shape) }
     requires two { half < 2 }
     requires inside { slot < layout.now.shape.slots }
     requires size { file_pages layout.now.shape * 4096 ≤ D.extent disk.old }

@@ -2,7 +2,7 @@
 ghost use Rattle.std.specs.Prelude.{◌≡◌, ◌<◌, ◌≤◌, ◌+◌, ◌*◌, [], List, ℕ, IsTrue, IfOk, IfErr, OnOk, IsErrOf, length};
 ghost use Rattle.grid_types.specs.declared.refusal.Refusal.TheVariants.{ReadFault, Damaged, NoMemory};
 ghost use Rattle.grid_types.specs.Pages.{page_of};
-ghost use Rattle.grid_types.specs.Shapes.{is_shape, file_pages, slot_page};
+ghost use Rattle.grid_types.specs.Shapes.{file_pages, slot_page};
 ghost use Rattle.disk_trait.specs.Causes.{Rose};
 ghost use Rattle.disk_trait.specs.Calls.{OnlyReads};
 ghost use Rattle.grid_model.specs.Spellings as model;
@@ -61,7 +61,6 @@ fn scan_slots<const K: usize, D: Disk, L: Ledger>(
     found: &mut Batches<K>,
     steps: &mut Steps<L>,
 ) -> Result<(), Refusal>
-    requires lawful { IsTrue (is_shape layout.now.shape) }
     requires two { half < 2 }
     requires size { file_pages layout.now.shape * 4096 ≤ D.extent disk.old }
     requires few { K ≤ 4 }
@@ -92,7 +91,6 @@ fn scan_slots<const K: usize, D: Disk, L: Ledger>(
 
 /// How many slots each half has.
 fn slots_of(layout: &Layout) -> u32
-    requires { IsTrue (is_shape layout.now.shape) }
     ensures value { result ≡ layout.now.shape.slots }
     ensures few { result ≤ 4000 }
 {
@@ -109,7 +107,6 @@ pub fn scan_half<const K: usize, D: Disk, L: Ledger>(
     session: u64,
     steps: &mut Steps<L>,
 ) -> Result<Batches<K>, Refusal>
-    requires lawful { IsTrue (is_shape layout.now.shape) }
     requires two { half < 2 }
     requires size { file_pages layout.now.shape * 4096 ≤ D.extent disk.old }
     requires few { K ≤ 4 }

@@ -1,7 +1,7 @@
 //! What is written into the journal: a batch, a gate that is opened, and gates that are closed. Each is on the disk when
 //! its call is done.
 ghost use Rattle.std.specs.Prelude.{◌≡◌, ◌<◌, ◌≤◌, ◌+◌, ◌*◌, ◌/◌, ◌%◌, ◌∷◌, [], IsTrue, OnOk, replicate};
-ghost use Rattle.grid_types.specs.Shapes.{is_shape, file_pages, slot_page, slot_gate_at};
+ghost use Rattle.grid_types.specs.Shapes.{file_pages, slot_page, slot_gate_at};
 ghost use Rattle.disk_trait.specs.Causes.{HasCause};
 ghost use Rattle.disk_trait.specs.Disk.{Agrees, Holds};
 ghost use Rattle.disk_trait.specs.Calls.{Changes, IsSynced};
@@ -18,7 +18,6 @@ const CLOSED: [u8; 4000] = [0; 4000];
 
 /// The byte of a slot's gate, counted from the start of the file.
 fn gate_at(layout: &Layout, half: u8, slot: u32) -> u64
-    requires lawful { IsTrue (is_shape layout.now.shape) }
     requires two { half < 2 }
     requires inside { slot < layout.now.shape.slots }
     ensures value { result ≡ slot_gate_at layout.now.shape half slot }
@@ -38,7 +37,6 @@ pub fn write_batch<const K: usize, D: Disk>(
     slot: u32,
     batch: &Batch<K>,
 ) -> Result<(), DiskFailed>
-    requires lawful { IsTrue (is_shape layout.now.shape) }
     requires two { half < 2 }
     requires inside { slot < layout.now.shape.slots }
     requires size { file_pages layout.now.shape * 4096 ≤ D.extent disk.old }
@@ -63,7 +61,6 @@ pub fn open_gate<D: Disk>(
     half: u8,
     slot: u32,
 ) -> Result<(), DiskFailed>
-    requires lawful { IsTrue (is_shape layout.now.shape) }
     requires two { half < 2 }
     requires inside { slot < layout.now.shape.slots }
     requires size { file_pages layout.now.shape * 4096 ≤ D.extent disk.old }
@@ -83,7 +80,6 @@ pub fn clear_half<D: Disk>(
     half: u8,
     used: u32,
 ) -> Result<(), DiskFailed>
-    requires lawful { IsTrue (is_shape layout.now.shape) }
     requires two { half < 2 }
     requires inside { used ≤ layout.now.shape.slots }
     requires size { file_pages layout.now.shape * 4096 ≤ D.extent disk.old }

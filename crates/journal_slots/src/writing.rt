@@ -10,10 +10,13 @@ use crate::fields::{attribute, boundary, bucket, bytes, code, key, kind};
 use grid_types::Noted;
 use page_fields::{put_bytes, put_corner, put_zeros, set_u16, set_u32, set_u64};
 
+/// How many bytes an update takes, and the head of a page too.
+const UPDATE: usize = 96;
+
 fn put_update<const K: usize>(page: &mut [u8; 4096], at: usize, noted: &Noted<K>)
-    requires room { at + 96 ≤ 4096 }
+    requires room { at + UPDATE ≤ 4096 }
     requires few { K ≤ 4 }
-    ensures front { take (at + 96) page.new ≡ take at page.old ++ update_bytes noted.now }
+    ensures front { take (at + UPDATE) page.new ≡ take at page.old ++ update_bytes noted.now }
 {
     let note = &noted.note;
     let data = bytes(&noted.update);
@@ -28,7 +31,7 @@ fn put_update<const K: usize>(page: &mut [u8; 4096], at: usize, noted: &Noted<K>
     set_u64(page, at + 8, boundary(note));
     put_corner(page, at + 16, &key(&noted.update).at);
     put_bytes(page, at + 48, data);
-    put_zeros(page, at + 48 + data.len(), at + 96);
+    put_zeros(page, at + 48 + data.len(), at + UPDATE);
 }
 
 fn put_head<const K: usize>(page: &mut [u8; 4096], batch: &Batch<K>)
@@ -50,7 +53,7 @@ pub fn encode<const K: usize>(batch: &Batch<K>, page: &mut [u8; 4096])
 {
     put_head(page, batch);
     for (i, noted) in batch.updates.as_slice().iter().enumerate() {
-        put_update(page, 96 + 96 * i, noted);
+        put_update(page, UPDATE + UPDATE * i, noted);
     }
-    put_zeros(page, 96 + 96 * batch.updates.len(), 4096);
+    put_zeros(page, UPDATE + UPDATE * batch.updates.len(), 4096);
 }

@@ -1,6 +1,6 @@
 //! Runs that are cut off at each call of the disk, and what a scan finds then.
 ghost use Rattle.std.specs.Prelude.{◌≡◌, ◌≤◌, ◌*◌, IsTrue};
-ghost use Rattle.grid_types.specs.Shapes.{is_shape, file_pages};
+ghost use Rattle.grid_types.specs.Shapes.{file_pages};
 ghost use Rattle.disk_memory.specs.Memories.{extent_of};
 
 use super::*;
@@ -26,7 +26,6 @@ fn are_whole(batches: &[Batch<2>]) -> bool {
 }
 
 fn found(alloc: Global, disk: &mut Memory, layout: &Layout) -> Option<usize>
-    requires lawful { IsTrue (is_shape layout.now.shape) }
     requires size { file_pages layout.now.shape * 4096 ≤ extent_of disk.old }
 {
     match scan(alloc, disk, layout, 7) {
@@ -43,7 +42,6 @@ fn found(alloc: Global, disk: &mut Memory, layout: &Layout) -> Option<usize>
 
 /// A publication that is cut off after so many calls.
 fn published(alloc: Global, layout: &Layout, calls: u64, keep: Keep) -> Result<Outcome, AllocError>
-    requires lawful { IsTrue (is_shape layout.now.shape) }
     requires slots { layout.now.shape.slots ≡ 3 }
 {
     let mut disk = Fused::new(closed(alloc, layout)?, calls);
@@ -55,7 +53,6 @@ fn published(alloc: Global, layout: &Layout, calls: u64, keep: Keep) -> Result<O
 
 /// A clearing of two batches that is cut off after so many calls.
 fn cleared(alloc: Global, layout: &Layout, calls: u64, keep: Keep) -> Result<Outcome, AllocError>
-    requires lawful { IsTrue (is_shape layout.now.shape) }
     requires slots { layout.now.shape.slots ≡ 3 }
 {
     let mut disk = closed(alloc, layout)?;

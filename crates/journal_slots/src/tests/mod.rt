@@ -1,6 +1,6 @@
 //! Worked pages of the journal, scans, and runs that are cut off.
 ghost use Rattle.std.specs.Prelude.{◌≡◌, ◌<◌, ◌≤◌, ◌*◌, IsTrue, IfSome, IfOk};
-ghost use Rattle.grid_types.specs.Shapes.{is_shape, file_pages};
+ghost use Rattle.grid_types.specs.Shapes.{file_pages};
 ghost use Rattle.disk_memory.specs.Memories.{extent_of};
 
 mod crashes;
@@ -72,8 +72,7 @@ fn is_of_each_kind(batch: &Batch<2>, session: u64, first: u64) -> bool {
 
 /// The layout of a file with 8 data pages and 3 slots.
 fn small() -> Option<Layout>
-    ensures lawful { IfSome result (λ l. IsTrue (is_shape l.shape)) }
-    ensures slots { IfSome result (λ l. l.shape.slots ≡ 3) }
+    ensures { IfSome result (λ l. l.shape.slots ≡ 3) }
 {
     let shape = Shape {
         k: 2,
@@ -92,7 +91,6 @@ fn small() -> Option<Layout>
 
 /// Writes the gate page of half 1 with closed gates.
 fn close_all(disk: &mut Memory, layout: &Layout) -> bool
-    requires lawful { IsTrue (is_shape layout.now.shape) }
     requires size { file_pages layout.now.shape * 4096 ≤ extent_of disk.old }
     ensures { extent_of disk.new ≡ extent_of disk.old }
 {
@@ -104,7 +102,6 @@ fn close_all(disk: &mut Memory, layout: &Layout) -> bool
 
 /// A file whose gates are closed.
 fn closed(alloc: Global, layout: &Layout) -> Result<Memory, AllocError>
-    requires lawful { IsTrue (is_shape layout.now.shape) }
     ensures size { IfOk result (λ m. extent_of m ≡ file_pages layout.now.shape * 4096) }
 {
     let mut disk = Memory::new(alloc, layout.shape.file_pages())?;
@@ -115,7 +112,6 @@ fn closed(alloc: Global, layout: &Layout) -> Result<Memory, AllocError>
 
 /// Publishes that batch on a slot of half 1.
 fn publish<D: Disk>(disk: &mut D, layout: &Layout, slot: u32, session: u64, first: u64) -> bool
-    requires lawful { IsTrue (is_shape layout.now.shape) }
     requires size { file_pages layout.now.shape * 4096 ≤ D.extent disk.old }
     requires inside { slot < layout.now.shape.slots }
     ensures { D.extent disk.new ≡ D.extent disk.old }
@@ -138,7 +134,6 @@ fn scan_with<L: Ledger>(
     session: u64,
     blank: Blank,
 ) -> Result<Batches<2>, Refusal>
-    requires lawful { IsTrue (is_shape layout.now.shape) }
     requires size { file_pages layout.now.shape * 4096 ≤ extent_of disk.old }
     requires name { blank.name ≡ L.name }
     requires parts { blank.parts ≡ L.parts }
@@ -156,7 +151,6 @@ fn scan(
     layout: &Layout,
     session: u64,
 ) -> Result<Batches<2>, Refusal>
-    requires lawful { IsTrue (is_shape layout.now.shape) }
     requires size { file_pages layout.now.shape * 4096 ≤ extent_of disk.old }
     ensures { extent_of disk.new ≡ extent_of disk.old }
 {

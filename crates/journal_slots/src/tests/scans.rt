@@ -1,6 +1,6 @@
 //! Scans of a half of the journal.
 ghost use Rattle.std.specs.Prelude.{◌≡◌, ◌<◌, ◌≤◌, ◌*◌, IsTrue};
-ghost use Rattle.grid_types.specs.Shapes.{is_shape, file_pages};
+ghost use Rattle.grid_types.specs.Shapes.{file_pages};
 ghost use Rattle.disk_memory.specs.Memories.{extent_of};
 
 use super::*;
@@ -71,7 +71,6 @@ fn batches_come_in_the_order_of_their_slots(rt: HostRuntime) -> Result<(), Fail>
 
 /// Writes the gate of a slot of half 1.
 fn put_gate(disk: &mut Memory, layout: &Layout, slot: u32, gate: u8) -> bool
-    requires lawful { IsTrue (is_shape layout.now.shape) }
     requires size { file_pages layout.now.shape * 4096 ≤ extent_of disk.old }
     requires few { slot < 3 }
     ensures { extent_of disk.new ≡ extent_of disk.old }
@@ -82,7 +81,6 @@ fn put_gate(disk: &mut Memory, layout: &Layout, slot: u32, gate: u8) -> bool
 
 /// Whether a scan finds nothing where the gates of slots 0 and 1 have this value.
 fn is_closed_at(alloc: Global, disk: &mut Memory, layout: &Layout, gate: u8) -> bool
-    requires lawful { IsTrue (is_shape layout.now.shape) }
     requires size { file_pages layout.now.shape * 4096 ≤ extent_of disk.old }
     ensures { extent_of disk.new ≡ extent_of disk.old }
 {

@@ -3,10 +3,10 @@ use Rattle.grid_types.proofs.Places.{within-limits, slot-page-lies}
 use Rattle.grid_types.proofs.layout.Layout.slot_page.Goals as goal
 
 pub overflow_add-result-2 : goal.overflow_add-result-2
-overflow_add-result-2 c = let w = within-limits c.args.self.now.shape c.requires.lawful in omega (arith, w.few_slots, c.requires.inside, c.gate_page.ensures.small)
+overflow_add-result-2 c = let w = within-limits c.args.self.now.shape c.args.self.now.lawful in omega (arith, w.few_slots, c.requires.inside, c.gate_page.ensures.small)
 
 pub returns-clause-value : goal.returns-clause-value
-returns-clause-value c = let l = slot-page-lies c.args.self.now.shape c.args.half c.args.i c.requires.lawful c.requires.two c.requires.inside in omega (arith, l.value, c.gate_page.ensures.value)
+returns-clause-value c = let l = slot-page-lies c.args.self.now.shape c.args.half c.args.i c.args.self.now.lawful c.requires.two c.requires.inside in omega (arith, l.value, c.gate_page.ensures.value)
 
 pub returns-clause-inside : goal.returns-clause-inside
-returns-clause-inside c = let l = slot-page-lies c.args.self.now.shape c.args.half c.args.i c.requires.lawful c.requires.two c.requires.inside in omega (arith, l.value, l.inside, c.gate_page.ensures.value)
+returns-clause-inside c = let l = slot-page-lies c.args.self.now.shape c.args.half c.args.i c.args.self.now.lawful c.requires.two c.requires.inside in omega (arith, l.value, l.inside, c.gate_page.ensures.value)

@@ -9,7 +9,7 @@ returns-then-area-eq0-clause-value c = let t = table-page c.args.self.now.shape 
 pub returns-then-area-eq0-clause-inside : goal.returns-then-area-eq0-clause-inside
 returns-then-area-eq0-clause-inside c =
     let t = table-page c.args.self.now.shape c.args.i in
-    let l = table-page-lies c.args.self.now.shape 0 c.args.i c.requires.lawful (omega arith) c.requires.inside in omega (arith, t.0, l.inside)
+    let l = table-page-lies c.args.self.now.shape 0 c.args.i c.args.self.now.lawful (omega arith) c.requires.inside in omega (arith, t.0, l.inside)
 
 pub returns-else-area-eq0-clause-value : goal.returns-else-area-eq0-clause-value
 returns-else-area-eq0-clause-value c =
@@ -20,4 +20,4 @@ returns-else-area-eq0-clause-value c =
 pub returns-else-area-eq0-clause-inside : goal.returns-else-area-eq0-clause-inside
 returns-else-area-eq0-clause-inside c =
     let t = table-page c.args.self.now.shape c.args.i in
-    let l = table-page-lies c.args.self.now.shape 1 c.args.i c.requires.lawful (omega arith) c.requires.inside in omega (arith, t.1, l.inside, c.area_pages-pages.ensures.value)
+    let l = table-page-lies c.args.self.now.shape 1 c.args.i c.args.self.now.lawful (omega arith) c.requires.inside in omega (arith, t.1, l.inside, c.area_pages-pages.ensures.value)
