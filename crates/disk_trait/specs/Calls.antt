@@ -1,6 +1,9 @@
 -- What a call leaves of a disk, each as one record over the trait's ghost members. Where a fact holds of a disk that tells its content alone, it says so itself.
-use Rattle.std.specs.Prelude.{◌≡◌, ◌≤◌, ◌↔◌, ℕ, List, IsTrue}
+use Rattle.std.specs.Prelude.{◌≡◌, ◌≤◌, ◌↔◌, ℕ, List, IsTrue, Result, IfErr, IsErrOf}
+use Rattle.grid_types.specs.declared.refusal.Refusal.{Refusal}
+use Rattle.grid_types.specs.declared.refusal.Refusal.TheVariants.{ReadFault, WriteFault}
 use Rattle.disk_trait.specs.declared.disk.Disk.{Ghosts}
+use Rattle.disk_trait.specs.Causes.{Rose}
 use Rattle.disk_trait.specs.Disk.{Follows, Only}
 use Rattle.disk_trait.specs.Moments.{After, LeavesOnly}
 
@@ -27,3 +30,9 @@ pub record Changes {D : Type 0} (g : Ghosts D) (step : List ℕ → List ℕ →
 -- all is on the disk: a crash leaves what reads give
 pub record IsSynced {D : Type 0} (g : Ghosts D) (disk : D) : Type 0 where
   pub only : IsTrue (g.honest disk) → Only (g.seen disk) (g.may_leave disk)
+
+-- a refusal is one of those that may come, and a fault of the disk comes only where the disk's count of such failures rose
+pub record HasCauses {D T : Type 0} (g : Ghosts D) (may_come : Refusal → Type 0) (old new : D) (result : Result T Refusal) : Type 0 where
+  pub read_fault : IsErrOf result ReadFault → Rose (g.read_count old) (g.read_count new)
+  pub write_fault : IsErrOf result WriteFault → Rose (g.write_count old) (g.write_count new)
+  pub no_other : IfErr result may_come

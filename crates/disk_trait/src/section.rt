@@ -1,10 +1,10 @@
 //! A page that is read, and a write that is on the disk when it is done.
-ghost use Rattle.std.specs.Prelude.{◌≡◌, ◌≤◌, ◌+◌, ◌*◌, IsTrue, length, OnOk, IfErr, IsErrOf};
+ghost use Rattle.std.specs.Prelude.{◌≡◌, ◌≤◌, ◌+◌, ◌*◌, IsTrue, length, OnOk};
 ghost use Rattle.grid_types.specs.declared.refusal.Refusal.TheVariants.{ReadFault};
 ghost use Rattle.grid_types.specs.Pages.{page_of};
-ghost use Rattle.disk_trait.specs.Causes.{HasCause, Rose};
+ghost use Rattle.disk_trait.specs.Causes.{HasCause};
 ghost use Rattle.disk_trait.specs.Disk.{Agrees, Holds, InOnePage};
-ghost use Rattle.disk_trait.specs.Calls.{OnlyReads, Changes, IsSynced};
+ghost use Rattle.disk_trait.specs.Calls.{OnlyReads, Changes, IsSynced, HasCauses};
 
 use crate::{Disk, DiskFailed, Steps};
 use grid_types::Refusal;
@@ -22,8 +22,7 @@ pub fn read_page<D: Disk, L: Ledger>(
     ensures ticks { steps.new ≡ steps.old + 1 }
     ensures bytes { IsTrue (D.honest disk.old) → OnOk result (out.new ≡ page_of page (D.seen disk.old)) }
     ensures same { OnlyReads D.Disk disk.old disk.new }
-    ensures read_fault { IsErrOf result ReadFault → Rose (D.read_count disk.old) (D.read_count disk.new) }
-    ensures no_other { IfErr result (λ e. e ≡ ReadFault) }
+    ensures causes { HasCauses D.Disk (λ e. e ≡ ReadFault) disk.old disk.new result }
 {
     match disk.read(page, out, steps) {
         Ok(()) => Ok(()),
