@@ -35,7 +35,7 @@ fn read_rows<const K: usize>(
         };
         rows.push(Record {
             key: Key {
-                at: get_corner(page, at),
+                numbers: get_corner(page, at),
             },
             value,
         });

@@ -1,7 +1,7 @@
 //! The page of a bucket.
 ghost use Rattle.std.specs.Prelude.{◌≡◌, ◌≤◌, ◌+◌, ◌++◌, take};
 ghost use Rattle.arrayvec.specs.ArrayVec.{array_vec_len};
-ghost use Rattle.grid_model.specs.Spellings.{row_bytes};
+ghost use Rattle.grid_model.specs.Spellings.{record_bytes};
 ghost use Rattle.bucket_page.specs.Spelling.{head, spelling, IsBucket, Spells};
 
 use crate::Bucket;
@@ -11,10 +11,10 @@ use page_fields::{put_bytes, put_corner, put_zeros, set_u16, set_u32};
 fn put_row<const K: usize>(page: &mut [u8; 4096], at: usize, row: &Record<K>)
     requires room { at + 80 ≤ 4096 }
     requires few { K ≤ 4 }
-    ensures front { take (at + 80) page.new ≡ take at page.old ++ row_bytes row.now }
+    ensures front { take (at + 80) page.new ≡ take at page.old ++ record_bytes row.now }
 {
     let bytes = row.value.bytes();
-    put_corner(page, at, &row.key.at);
+    put_corner(page, at, &row.key.numbers);
     put_bytes(page, at + 32, &[bytes.len() as u8]);
     put_bytes(page, at + 33, bytes);
     put_zeros(page, at + 33 + bytes.len(), at + 80);

@@ -10,7 +10,7 @@ use Rattle.grid_model.specs.Cells.{place}
 use Rattle.grid_model.specs.ScaleLaws.{IsCell}
 use Rattle.grid_cells.specs.Boxes.{InBox}
 use Rattle.grid_cells.proofs.Products.{place-below}
-use Rattle.directory_pages.specs.Spelling.{Spells, bucket_in}
+use Rattle.directory_pages.specs.Spelling.{SpellsPart, bucket_in}
 use Rattle.directory_pages.specs.Boxes.{cells_on, HoldsCell, HasPlace, IsPatched, IsBeside, IsOutsideBox}
 use Rattle.directory_pages.proofs.Patches.{written_there, byte_kept, bucket_kept}
 
@@ -97,14 +97,14 @@ pub record PagePatched (ns lo hi : List ℕ) (part bucket n : ℕ) (old new : Li
   pub long : length new ≡ 4096
   pub named : (i : ℕ) → i < n → HasPlace ns lo hi (1000 * part + i) → bucket_in i new ≡ bucket
   pub others : (k : ℕ) → ((i : ℕ) → i < n → HasPlace ns lo hi (1000 * part + i) → IsBeside i k) → slice_index new k ≡ slice_index old k
-  pub cells : (cells after : List ℕ) → Spells part old cells → length cells ≡ cells_on ns part → PatchedBelow ns lo hi part bucket n cells after → Spells part new after
+  pub cells : (cells after : List ℕ) → SpellsPart part old cells → length cells ≡ cells_on ns part → PatchedBelow ns lo hi part bucket n cells after → SpellsPart part new after
 
 pub page_unpatched : (ns lo hi : List ℕ) (part x : ℕ) (page : List ℕ) → length page ≡ 4096 → PagePatched ns lo hi part x 0 page page
 page_unpatched ns lo hi part x page long = record {
   long = long;
   named = λ i no h. absurd (omega (arith, no));
   others = λ k out. refl;
-  cells = λ cells after s e p. subst (Spells part page) (patched_none ns lo hi part x cells after p) s;
+  cells = λ cells after s e p. subst (SpellsPart part page) (patched_none ns lo hi part x cells after p) s;
 }
 
 -- a place with no cell of the box
@@ -118,7 +118,7 @@ place_passed ns lo hi part x n old new out p = record {
 
 -- a place with a cell of the box
 pub place_patched : (ns lo hi : List ℕ) (part x n : ℕ) (first old new : List ℕ) → HasPlace ns lo hi (1000 * part + n) → n < cells_on ns part → x < 2 ^ 32 → new ≡ replaced (96 + 4 * n) (bytes_of 4 x) old → length new ≡ 4096
-    → ((cells : List ℕ) → Spells part old cells → n < length cells → Spells part new (set cells n x)) → PagePatched ns lo hi part x n first old → PagePatched ns lo hi part x (n + 1) first new
+    → ((cells : List ℕ) → SpellsPart part old cells → n < length cells → SpellsPart part new (set cells n x)) → PagePatched ns lo hi part x n first old → PagePatched ns lo hi part x (n + 1) first new
 place_patched ns lo hi part x n first old new here lt fit e long spelled p =
     let room : 96 + 4 * n + 4 ≤ length old = omega (arith, lt, p.long) in
     record {
@@ -133,9 +133,9 @@ place_patched ns lo hi part x n first old new here lt fit e long spelled p =
           let there : n < length cells = omega (arith, lt, count) in
           let v = slice_index cells n in
           let before = set after n v in
-          let was : Spells part old before = p.cells cells before s count (patched_before ns lo hi part x n cells after there q) in
-          let is : Spells part new (set before n x) = spelled before was (omega (arith, there, length-set after n v, q.count)) in
-          subst (Spells part new) (set_back after n v x (omega (arith, there, q.count)) (q.inside n (omega arith) here)) is;
+          let was : SpellsPart part old before = p.cells cells before s count (patched_before ns lo hi part x n cells after there q) in
+          let is : SpellsPart part new (set before n x) = spelled before was (omega (arith, there, length-set after n v, q.count)) in
+          subst (SpellsPart part new) (set_back after n v x (omega (arith, there, q.count)) (q.inside n (omega arith) here)) is;
     }
 
 -- what each place of the part has given
@@ -151,7 +151,7 @@ all_others ns lo hi part x n old new le p k out =
     subst (λ (j : ℕ). IsBeside j k) index (out h.cell h.is_cell h.inside (omega (arith, h.place_is, lt, le))))
 
 pub all_cells : (ns lo hi : List ℕ) (part x n : ℕ) (old new : List ℕ) → n ≡ cells_on ns part → PagePatched ns lo hi part x n old new
-    → (cells after : List ℕ) → Spells part old cells → length cells ≡ cells_on ns part → IsPatched ns lo hi part x cells after → Spells part new after
+    → (cells after : List ℕ) → SpellsPart part old cells → length cells ≡ cells_on ns part → IsPatched ns lo hi part x cells after → SpellsPart part new after
 all_cells ns lo hi part x n old new end p cells after s count q =
     p.cells cells after s count (record {
       count = q.count;

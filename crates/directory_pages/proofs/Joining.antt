@@ -6,11 +6,11 @@ use Rattle.page_fields.specs.Padded.{words_of}
 use Rattle.page_fields.proofs.Bodies.{zeros_left, body_read}
 use Rattle.page_fields.proofs.Entries.{AreBytes, number_is, entries_in, length-entries_in, entries_fit}
 use Rattle.page_fields.proofs.ZeroParts.{zeros_are}
-use Rattle.directory_pages.specs.Spelling.{head, IsPart}
-use Rattle.directory_pages.specs.Reading.{IsHead}
+use Rattle.directory_pages.specs.Spelling.{part_head, IsPart}
+use Rattle.directory_pages.specs.Reading.{IsPartHead}
 use Rattle.directory_pages.proofs.Standing.{head_is, page_is, part_there}
 
-head_joined : (part count : ℕ) (page : List ℕ) → IsHead part count page → 96 ≤ length page → AreBytes page → page ≡ head part count ++ drop 96 page
+head_joined : (part count : ℕ) (page : List ℕ) → IsPartHead part count page → 96 ≤ length page → AreBytes page → page ≡ part_head part count ++ drop 96 page
 head_joined part count page h low fits =
     let body = drop 96 page in
     let at12 : drop 12 page ≡ replicate 84 0 ++ body = zeros_are 12 96 page (omega arith) low h.rest in
@@ -24,12 +24,12 @@ body_joined : (count : ℕ) (page : List ℕ) → count ≤ 1000 → AreZeros (9
 unfolding words_of
 body_joined count page few zeros long fits = body_read 4 count page (omega (arith, few)) zeros long fits
 
--- a page with that head, and zeros behind so many cells, is that part
-pub joined : (part count : ℕ) (page : List ℕ) → part < 2 ^ 32 → count ≤ 1000 → length page ≡ 4096 → AreBytes page → IsHead part count page → AreZeros (96 + 4 * count) 4096 page → IsPart part count page
+-- a page with that part_head, and zeros behind so many cells, is that part
+pub joined : (part count : ℕ) (page : List ℕ) → part < 2 ^ 32 → count ≤ 1000 → length page ≡ 4096 → AreBytes page → IsPartHead part count page → AreZeros (96 + 4 * count) 4096 page → IsPart part count page
 joined part count page fit few long fits h zeros =
     let cells = entries_in 4 96 count page in
     let size : length cells ≡ count = length-entries_in 4 96 count page in
-    let spelled : page ≡ head part count ++ (words_of cells ++ zeros_left 4 count) = head_joined part count page h (omega arith) fits ∙ ap (λ (r : List ℕ). head part count ++ r) (body_joined count page few zeros long fits) in
+    let spelled : page ≡ part_head part count ++ (words_of cells ++ zeros_left 4 count) = head_joined part count page h (omega arith) fits ∙ ap (λ (r : List ℕ). part_head part count ++ r) (body_joined count page few zeros long fits) in
     record {
       cells = cells;
       count_is = size;
@@ -37,13 +37,13 @@ joined part count page fit few long fits h zeros =
         part_in_range = fit;
         in_range = entries_fit 4 96 count page fits;
         few = omega (arith, size);
-        bytes = spelled ∙ ap (λ (n : ℕ). head part n ++ (words_of cells ++ zeros_left 4 n)) (sym size) ∙ sym (page_is part cells);
+        bytes = spelled ∙ ap (λ (n : ℕ). part_head part n ++ (words_of cells ++ zeros_left 4 n)) (sym size) ∙ sym (page_is part cells);
       };
     }
 
--- that part has that head
-pub head_there : (part count : ℕ) (page : List ℕ) → IsPart part count page → IsHead part count page
-head_there part count page p = subst (λ (n : ℕ). IsHead part n page) p.count_is (part_there part page p.cells p.spelled).front
+-- that part has that part_head
+pub head_there : (part count : ℕ) (page : List ℕ) → IsPart part count page → IsPartHead part count page
+head_there part count page p = subst (λ (n : ℕ). IsPartHead part n page) p.count_is (part_there part page p.cells p.spelled).front
 
 -- behind its cells stand zeros
 pub zeros_there : (part count : ℕ) (page : List ℕ) → IsPart part count page → AreZeros (96 + 4 * count) 4096 page

@@ -11,8 +11,8 @@ use Rattle.byteorder.specs.Endian.{big_from}
 use Rattle.page_fields.specs.Fields.{number, bytes_of, replaced}
 use Rattle.page_fields.proofs.BytesOf.{length-bytes_of, number-back}
 use Rattle.grid_model.specs.Lists.{is_among}
-use Rattle.directory_pages.specs.Spelling.{Spells, bucket_in}
-use Rattle.directory_pages.specs.Patching.{bucket_after, patched, IsOutside}
+use Rattle.directory_pages.specs.Spelling.{SpellsPart, bucket_in}
+use Rattle.directory_pages.specs.Patching.{bucket_after, patched, IsBesideCells}
 
 pub length-patched : (is : List ℕ) (x : ℕ) (cells : List ℕ) → length (patched is x cells) ≡ length cells
 unfolding patched
@@ -101,7 +101,7 @@ named_more is n x old new lt e le fit before i among =
           bucket_kept i j x old new e le other ∙ before i was
     ]
 
-outside_front : (is : List ℕ) (n k : ℕ) → n < length is → IsOutside (take (n + 1) is) k → IsOutside (take n is) k
+outside_front : (is : List ℕ) (n k : ℕ) → n < length is → IsBesideCells (take (n + 1) is) k → IsBesideCells (take n is) k
 outside_front is n k lt out j h =
     let low : j < n = omega (arith, h, length-take-le n is (omega arith)) in
     let same : slice_index (take (n + 1) is) j ≡ slice_index (take n is) j = get_or-take (n + 1) is j 0 (omega arith) ∙ sym (get_or-take n is j 0 low) in
@@ -109,12 +109,12 @@ outside_front is n k lt out j h =
 
 -- each byte outside of the cells that are named is as it was
 pub others_more : (is : List ℕ) (n x : ℕ) (first old new : List ℕ) → n < length is → new ≡ replaced (96 + 4 * slice_index is n) (bytes_of 4 x) old → 96 + 4 * slice_index is n + 4 ≤ length old
-    → ((k : ℕ) → IsOutside (take n is) k → slice_index old k ≡ slice_index first k) → (k : ℕ) → IsOutside (take (n + 1) is) k → slice_index new k ≡ slice_index first k
+    → ((k : ℕ) → IsBesideCells (take n is) k → slice_index old k ≡ slice_index first k) → (k : ℕ) → IsBesideCells (take (n + 1) is) k → slice_index new k ≡ slice_index first k
 others_more is n x first old new lt e le before k out =
     let j = slice_index is n in
     let here = subst (λ (i : ℕ). (k < 96 + 4 * i) ⊎ (96 + 4 * i + 4 ≤ k)) (get_or-take (n + 1) is n 0 (omega arith)) (out n (omega (arith, length-take-le (n + 1) is (omega arith)))) in
     byte_kept (96 + 4 * j) 4 k (bytes_of 4 x) old new e (length-bytes_of 4 x) le here ∙ before k (outside_front is n k lt out)
 
 -- the cells that are spelled
-pub cells_more : (is : List ℕ) (n x part : ℕ) (new cells : List ℕ) → n < length is → slice_index is n < length cells → Spells part new (set (patched (take n is) x cells) (slice_index is n) x) → Spells part new (patched (take (n + 1) is) x cells)
-cells_more is n x part new cells lt low s = subst (Spells part new) (sym (patched_more (take n is) (take (n + 1) is) x (slice_index is n) cells (among_more is n lt) low)) s
+pub cells_more : (is : List ℕ) (n x part : ℕ) (new cells : List ℕ) → n < length is → slice_index is n < length cells → SpellsPart part new (set (patched (take n is) x cells) (slice_index is n) x) → SpellsPart part new (patched (take (n + 1) is) x cells)
+cells_more is n x part new cells lt low s = subst (SpellsPart part new) (sym (patched_more (take n is) (take (n + 1) is) x (slice_index is n) cells (among_more is n lt) low)) s

@@ -1,4 +1,4 @@
--- What stands in a page where cells are spelled: the head, each cell at its offset, and zeros behind them.
+-- What stands in a page where cells are spelled: the part_head, each cell at its offset, and zeros behind them.
 use Rattle.std.proofs.Common.{◌≡◌, ◌<◌, ◌+◌, ◌-◌, ◌*◌, ◌^◌, ℕ, List, [], ◌++◌, length, take, drop, slice_index, replicate, sym, ap, ◌∙◌, append_assoc, length-append, arith, codes, refl}
 use Rattle.std.proofs.lemmas.List.{take_at, append-nil, same_lists, get_or_default}
 use Rattle.page_fields.specs.Fields.{number, bytes_of, AreZeros}
@@ -8,20 +8,20 @@ use Rattle.page_fields.proofs.BytesOf.{number-back, length-bytes_of, length-word
 use Rattle.page_fields.proofs.Entries.{entry_there}
 use Rattle.page_fields.proofs.Places.{behind}
 use Rattle.page_fields.proofs.ZeroParts.{zeros_spelled}
-use Rattle.grid_model.specs.Spellings.{page, directory_page}
-use Rattle.directory_pages.specs.Spelling.{head, Spells, bucket_in}
-use Rattle.directory_pages.specs.Reading.{IsHead}
+use Rattle.grid_model.specs.Spellings.{page, directory_spelling}
+use Rattle.directory_pages.specs.Spelling.{part_head, SpellsPart, bucket_in}
+use Rattle.directory_pages.specs.Reading.{IsPartHead}
 use Rattle.directory_pages.specs.Laws.{IsOnePart}
 
--- the head, field by field
-pub head_is : (part count : ℕ) → head part count ≡ codes "GFD1" ++ (bytes_of 4 part ++ (bytes_of 4 count ++ replicate 84 0))
-unfolding head
+-- the part_head, field by field
+pub head_is : (part count : ℕ) → part_head part count ≡ codes "GFD1" ++ (bytes_of 4 part ++ (bytes_of 4 count ++ replicate 84 0))
+unfolding part_head
 head_is part count =
     let front = bytes_of 4 part ++ bytes_of 4 count in
     let long : length front ≡ 8 = length-append (bytes_of 4 part) (bytes_of 4 count) ∙ omega (arith, length-bytes_of 4 part, length-bytes_of 4 count) in
     filled_with 96 84 (codes "GFD1" ++ front) (omega (arith, length-append (codes "GFD1") front, long)) ∙ simp append_assoc
 
-pub length-head : (part count : ℕ) → length (head part count) ≡ 96
+pub length-head : (part count : ℕ) → length (part_head part count) ≡ 96
 length-head part count =
     let a = bytes_of 4 part in
     let b = bytes_of 4 count in
@@ -29,14 +29,14 @@ length-head part count =
     ∙ length-append (codes "GFD1") (a ++ (b ++ replicate 84 0))
     ∙ omega (arith, length-append a (b ++ replicate 84 0), length-append b (replicate 84 0), length-bytes_of 4 part, length-bytes_of 4 count)
 
--- a directory page is its head, its cells and zeros
-pub page_is : (part : ℕ) (cells : List ℕ) → directory_page part cells ≡ head part (length cells) ++ (words_of cells ++ zeros_left 4 (length cells))
-unfolding directory_page page head words_of
-page_is part cells = ap (λ (body : List ℕ). head part (length cells) ++ body) (body_spelled 4 cells)
+-- a directory page is its part_head, its cells and zeros
+pub page_is : (part : ℕ) (cells : List ℕ) → directory_spelling part cells ≡ part_head part (length cells) ++ (words_of cells ++ zeros_left 4 (length cells))
+unfolding directory_spelling page part_head words_of
+page_is part cells = ap (λ (body : List ℕ). part_head part (length cells) ++ body) (body_spelled 4 cells)
 
 -- each field of a directory page stands at its offset
 pub record PartAt (part : ℕ) (page cells : List ℕ) : Type 0 where
-  pub front : IsHead part (length cells) page
+  pub front : IsPartHead part (length cells) page
   pub each : (i : ℕ) → i < length cells → slice_index cells i ≡ bucket_in i page
   pub zeros : AreZeros (96 + 4 * length cells) 4096 page
 
@@ -45,7 +45,7 @@ unfolding words_of
 cell_there page cells e fits i lt = entry_there 4 96 page cells (zeros_left 4 (length cells)) e fits i lt
 
 -- cells stand where they are spelled
-pub part_there : (part : ℕ) (page cells : List ℕ) → Spells part page cells → PartAt part page cells
+pub part_there : (part : ℕ) (page cells : List ℕ) → SpellsPart part page cells → PartAt part page cells
 part_there part page cells s =
     let n = length cells in
     let body = words_of cells ++ zeros_left 4 n in

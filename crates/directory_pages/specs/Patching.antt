@@ -15,5 +15,5 @@ unfoldable pub patched : List ℕ → ℕ → List ℕ → List ℕ
 patched indices bucket cells = map (bucket_after indices bucket cells) (below (length cells))
 
 -- the byte at k of a page is in none of these cells
-abbrev pub IsOutside : List ℕ → ℕ → Type 0
-IsOutside indices k = (j : ℕ) → j < length indices → (k < 96 + 4 * slice_index indices j) ⊎ (96 + 4 * slice_index indices j + 4 ≤ k)
+abbrev pub IsBesideCells : List ℕ → ℕ → Type 0
+IsBesideCells indices k = (j : ℕ) → j < length indices → (k < 96 + 4 * slice_index indices j) ⊎ (96 + 4 * slice_index indices j + 4 ≤ k)

@@ -3,7 +3,7 @@ use Rattle.std.specs.Prelude.{◌≡◌, ℕ, List, take, drop, codes}
 use Rattle.page_fields.specs.Fields.{number, AreZeros}
 
 -- the front of a page is the head of that part with so many cells: each field stands at its offset, and zeros behind them
-pub record IsHead (part count : ℕ) (page : List ℕ) : Type 0 where
+pub record IsPartHead (part count : ℕ) (page : List ℕ) : Type 0 where
   pub kind : take 4 page ≡ codes "GFD1"
   pub part_is : number 4 (drop 4 page) ≡ part
   pub count_is : number 4 (drop 8 page) ≡ count

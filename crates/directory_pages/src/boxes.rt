@@ -5,7 +5,7 @@ ghost use Rattle.grid_model.specs.Cells.{place};
 ghost use Rattle.grid_model.specs.ScaleLaws.{IsCell};
 ghost use Rattle.grid_cells.specs.Dims.{IsDims};
 ghost use Rattle.grid_cells.specs.Boxes.{InBox};
-ghost use Rattle.directory_pages.specs.Spelling.{Spells, bucket_in};
+ghost use Rattle.directory_pages.specs.Spelling.{SpellsPart, bucket_in};
 ghost use Rattle.directory_pages.specs.Boxes.{cells_on, HoldsCell, IsNextPart, IsNoneFrom, IsPatched, IsOutsideBox};
 
 use crate::set_bucket;
@@ -79,7 +79,7 @@ pub fn patch_box<const K: usize>(
     requires some { 1000 * part < product dims.now.n }
     ensures named { (cell : List ℕ) → IsCell dims.now.n cell → InBox lo.now hi.now cell → place dims.now.n cell / 1000 ≡ part → bucket_in (place dims.now.n cell % 1000) page.new ≡ bucket }
     ensures others { (k : ℕ) → IsOutsideBox dims.now.n lo.now hi.now part k → slice_index page.new k ≡ slice_index page.old k }
-    ensures cells { (cells after : List ℕ) → Spells part page.old cells → length cells ≡ cells_on dims.now.n part → IsPatched dims.now.n lo.now hi.now part bucket cells after → Spells part page.new after }
+    ensures cells { (cells after : List ℕ) → SpellsPart part page.old cells → length cells ≡ cells_on dims.now.n part → IsPatched dims.now.n lo.now hi.now part bucket cells after → SpellsPart part page.new after }
 {
     for i in 0..cells_on(dims, part) {
         if is_in_box(lo, hi, &dims.cell(1000 * part + i)) {

@@ -1,13 +1,13 @@
 //! Whether a page is a directory page.
 ghost use Rattle.std.specs.Prelude.{◌≤◌, ◌↔◌, IsTrue};
 ghost use Rattle.directory_pages.specs.Spelling.{IsPart};
-ghost use Rattle.directory_pages.specs.Reading.{IsHead};
+ghost use Rattle.directory_pages.specs.Reading.{IsPartHead};
 
 use page_fields::{get_u32, zeros};
 
 /// Whether the front of the page is the head of that part with so many cells.
 fn has_head(page: &[u8; 4096], part: u32, count: u32) -> bool
-    ensures { IsTrue result ↔ IsHead part count page.now }
+    ensures { IsTrue result ↔ IsPartHead part count page.now }
 {
     page.starts_with(b"GFD1")
         && get_u32(page, 4) == part

@@ -1,12 +1,12 @@
 //! The page of a part of the directory.
 ghost use Rattle.std.specs.Prelude.{◌≡◌, ◌≤◌, length, take};
-ghost use Rattle.grid_model.specs.Spellings.{directory_page};
-ghost use Rattle.directory_pages.specs.Spelling.{Spells, head};
+ghost use Rattle.grid_model.specs.Spellings.{directory_spelling};
+ghost use Rattle.directory_pages.specs.Spelling.{SpellsPart, part_head};
 
 use page_fields::{put_bytes, put_words, put_zeros, set_u32};
 
 fn put_head(page: &mut [u8; 4096], part: u32, count: u32)
-    ensures front { take 96 page.new ≡ head part count }
+    ensures front { take 96 page.new ≡ part_head part count }
 {
     put_bytes(page, 0, b"GFD1");
     set_u32(page, 4, part);
@@ -18,8 +18,8 @@ fn put_head(page: &mut [u8; 4096], part: u32, count: u32)
 pub fn encode(part: u32, cells: &[u32], page: &mut [u8; 4096])
     requires some { 1 ≤ length cells.now }
     requires few { length cells.now ≤ 1000 }
-    ensures written { page.new ≡ directory_page part cells.now }
-    ensures spelled { Spells part page.new cells.now }
+    ensures written { page.new ≡ directory_spelling part cells.now }
+    ensures spelled { SpellsPart part page.new cells.now }
 {
     put_head(page, part, cells.len() as u32);
     put_words(page, 96, cells);

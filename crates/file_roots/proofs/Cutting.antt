@@ -9,9 +9,9 @@ use Rattle.grid_types.specs.Shapes.{is_shape, area_pages, header_page}
 use Rattle.grid_types.proofs.Places.{within-limits}
 use Rattle.grid_model.specs.Lists.{AreDistinct}
 use Rattle.grid_model.specs.Scales.{is_scale, scale_of}
-use Rattle.grid_model.specs.Spellings.{RootFields, scale_page, list_page, bucket_table_page}
+use Rattle.grid_model.specs.Spellings.{RootFields, scale_spelling, list_spelling, bucket_table_spelling}
 use Rattle.grid_model.specs.Lawful.{IsRootOn, Area, pages_named}
-use Rattle.grid_model.specs.Images.{area_page, half_of_scale}
+use Rattle.grid_model.specs.Images.{area_spelling, half_of_scale}
 use Rattle.grid_model.proofs.Counts.{count}
 use Rattle.file_roots.specs.Damage.{SpellsUpTo, HasAreaUpTo}
 use Rattle.file_roots.proofs.Ascending.{front_of_scale}
@@ -77,15 +77,15 @@ module _ (s : Shape) (image : List ℕ) (r : RootFields) (lawful : IsTrue (is_sh
               let part = take (500 * (n - 2 * (i / 2))) whole in
               let halves : half_of_scale (i % 2) whole ≡ half_of_scale (i % 2) part = half_piece (i % 2) whole (omega arith) short
               ∙ sym (half_piece (i % 2) part (omega arith) (omega (arith, length-take (500 * (n - 2 * (i / 2))) whole, short)) ∙ piece_take 500 (500 * (i % 2)) (500 * (n - 2 * (i / 2))) whole (omega (arith, lt))) in
-              area_page_scale r.number a i first ∙ ap (scale_page r.number i) (halves ∙ ap (half_of_scale (i % 2)) (sym (scale (i / 2)))) ∙ sym (area_page_scale r.number less i first)
+              area_page_scale r.number a i first ∙ ap (scale_spelling r.number i) (halves ∙ ap (half_of_scale (i % 2)) (sym (scale (i / 2)))) ∙ sym (area_page_scale r.number less i first)
           | inr later ↦ elim (cases_eq i 8) [
             | inl eighth ↦
                 let w = within-limits s lawful in
                 let all : take (1000 * (n - 8)) a.parts ≡ a.parts = take_all (1000 * (n - 8)) a.parts (omega (arith, spelled.parts, root.parts, root.few_cells, w.few_cells, lt, eighth)) in
-                subst (λ (j : ℕ). area_page r.number a j ≡ area_page r.number less j) (sym eighth) (ap (list_page r.number 8) (sym all))
+                subst (λ (j : ℕ). area_spelling r.number a j ≡ area_spelling r.number less j) (sym eighth) (ap (list_spelling r.number 8) (sym all))
             | inr other ↦
                 let ninth : 9 ≤ i = omega (arith, later, other) in
-                area_page_table r.number a i ninth ∙ ap (bucket_table_page r.number i) (sym (piece_take 1000 (1000 * (i - 9)) (1000 * (n - 9)) a.table (omega (arith, lt, ninth)))) ∙ sym (area_page_table r.number less i ninth)
+                area_page_table r.number a i ninth ∙ ap (bucket_table_spelling r.number i) (sym (piece_take 1000 (1000 * (i - 9)) (1000 * (n - 9)) a.table (omega (arith, lt, ninth)))) ∙ sym (area_page_table r.number less i ninth)
           ]
         ]);
       }

@@ -10,9 +10,9 @@ use Rattle.grid_types.specs.Shapes.{is_shape, header_page, table_page}
 use Rattle.grid_types.proofs.Places.{within-limits}
 use Rattle.grid_model.specs.Lists.{AreDistinct}
 use Rattle.grid_model.specs.Scales.{is_scale, scale_of}
-use Rattle.grid_model.specs.Spellings.{RootFields, scale_page, list_page, bucket_table_page}
+use Rattle.grid_model.specs.Spellings.{RootFields, scale_spelling, list_spelling, bucket_table_spelling}
 use Rattle.grid_model.specs.Lawful.{IsRootOn, Area, pages_named}
-use Rattle.grid_model.specs.Images.{area_page, half_of_scale}
+use Rattle.grid_model.specs.Images.{area_spelling, half_of_scale}
 use Rattle.file_roots.specs.Damage.{SpellsUpTo}
 use Rattle.file_roots.proofs.Slices.{first_half}
 use Rattle.file_roots.proofs.Pieces.{piece_old, piece_new, half_piece}
@@ -42,7 +42,7 @@ module _ (s : Shape) (image : List ℕ) (r : RootFields) (lawful : IsTrue (is_sh
 
   module _ (n : ℕ) (a : Area) (spelled : SpellsUpTo s image r n a) where
     -- by a page of a scale
-    pub grow_scale : (xs : List ℕ) → n < 8 → n / 2 < length a.scales → page_of (table_page s (header_page r.number) n) image ≡ scale_page r.number n xs → length xs ≡ count_on s image r lawful root n
+    pub grow_scale : (xs : List ℕ) → n < 8 → n / 2 < length a.scales → page_of (table_page s (header_page r.number) n) image ≡ scale_spelling r.number n xs → length xs ≡ count_on s image r lawful root n
         → IsTrue (is_scale (scale_of a.scales (n / 2) ++ xs)) → SpellsUpTo s image r (n + 1) (record { scales = slice_set a.scales (n / 2) (scale_of a.scales (n / 2) ++ xs); parts = a.parts; table = a.table })
     grow_scale xs le inside page count scale =
         let at = n / 2 in
@@ -78,17 +78,17 @@ module _ (s : Shape) (image : List ℕ) (r : RootFields) (lawful : IsTrue (is_sh
                       ∙ ap (half_of_scale (k % 2)) (sym here) ∙ ap (λ (j : ℕ). half_of_scale (k % 2) (scale_of all j)) (sym same)
                   | inr other ↦ ap (half_of_scale (k % 2)) (sym (there (k / 2) other))
                 ] in
-                spelled.pages k below ∙ area_page_scale r.number a k (omega (arith, below, le)) ∙ ap (scale_page r.number k) halves ∙ sym (area_page_scale r.number (record { scales = all; parts = a.parts; table = a.table }) k (omega (arith, below, le)))
+                spelled.pages k below ∙ area_page_scale r.number a k (omega (arith, below, le)) ∙ ap (scale_spelling r.number k) halves ∙ sym (area_page_scale r.number (record { scales = all; parts = a.parts; table = a.table }) k (omega (arith, below, le)))
             | inr not_below ↦
                 let same : n ≡ k = omega (arith, lt, not_below) in
                 let half : half_of_scale (n % 2) (scale_of all at) ≡ xs = ap (half_of_scale (n % 2)) here ∙ half_piece (n % 2) (old ++ xs) (omega arith) long ∙ piece_new 500 from whole old xs lo count in
-                subst (λ (j : ℕ). page_of (table_page s (header_page r.number) j) image ≡ area_page r.number (record { scales = all; parts = a.parts; table = a.table }) j) same
-                (page ∙ ap (scale_page r.number n) (sym half) ∙ sym (area_page_scale r.number (record { scales = all; parts = a.parts; table = a.table }) n le))
+                subst (λ (j : ℕ). page_of (table_page s (header_page r.number) j) image ≡ area_spelling r.number (record { scales = all; parts = a.parts; table = a.table }) j) same
+                (page ∙ ap (scale_spelling r.number n) (sym half) ∙ sym (area_page_scale r.number (record { scales = all; parts = a.parts; table = a.table }) n le))
           ];
         }
 
     -- by a page of a scale that the root does not have
-    pub grow_past : (xs : List ℕ) → n < 8 → length a.scales ≤ n / 2 → page_of (table_page s (header_page r.number) n) image ≡ scale_page r.number n xs → length xs ≡ count_on s image r lawful root n → SpellsUpTo s image r (n + 1) a
+    pub grow_past : (xs : List ℕ) → n < 8 → length a.scales ≤ n / 2 → page_of (table_page s (header_page r.number) n) image ≡ scale_spelling r.number n xs → length xs ≡ count_on s image r lawful root n → SpellsUpTo s image r (n + 1) a
     grow_past xs le outside page count =
         let at = n / 2 in
         let zeroth : slice_index r.boundaries at ≡ 0 = past at (omega (arith, outside, spelled.attributes)) in
@@ -111,12 +111,12 @@ module _ (s : Shape) (image : List ℕ) (r : RootFields) (lawful : IsTrue (is_sh
                 let same : n ≡ k = omega (arith, lt, not_below) in
                 let half : half_of_scale (n % 2) (scale_of a.scales at) ≡ xs =
                 ap (half_of_scale (n % 2)) empty ∙ half_piece (n % 2) [] (omega arith) (omega arith) ∙ ap (take 500) (drop_of_length-le {A = ℕ} [] {i = 500 * (n % 2)} (omega arith)) ∙ take_all {A = ℕ} 500 [] (omega arith) ∙ sym nothing in
-                subst (λ (j : ℕ). page_of (table_page s (header_page r.number) j) image ≡ area_page r.number a j) same (page ∙ ap (scale_page r.number n) (sym half) ∙ sym (area_page_scale r.number a n le))
+                subst (λ (j : ℕ). page_of (table_page s (header_page r.number) j) image ≡ area_spelling r.number a j) same (page ∙ ap (scale_spelling r.number n) (sym half) ∙ sym (area_page_scale r.number a n le))
           ];
         }
 
     -- by the page of the list
-    pub grow_list : (xs : List ℕ) → n ≡ 8 → page_of (table_page s (header_page r.number) n) image ≡ list_page r.number n xs → length xs ≡ r.parts
+    pub grow_list : (xs : List ℕ) → n ≡ 8 → page_of (table_page s (header_page r.number) n) image ≡ list_spelling r.number n xs → length xs ≡ r.parts
         → All (λ p. p < s.pages) ((a.parts ++ xs) ++ pages_named a.table) → AreDistinct ((a.parts ++ xs) ++ pages_named a.table) → SpellsUpTo s image r (n + 1) (record { scales = a.scales; parts = a.parts ++ xs; table = a.table })
     grow_list xs eighth page count named distinct =
         let w = within-limits s lawful in
@@ -133,14 +133,14 @@ module _ (s : Shape) (image : List ℕ) (r : RootFields) (lawful : IsTrue (is_sh
             | inl below ↦ spelled.pages k below ∙ area_page_scale r.number a k (omega (arith, below, eighth)) ∙ sym (area_page_scale r.number (record { scales = a.scales; parts = a.parts ++ xs; table = a.table }) k (omega (arith, below, eighth)))
             | inr not_below ↦
                 let same : 8 ≡ k = omega (arith, lt, not_below, eighth) in
-                let now : page_of (table_page s (header_page r.number) 8) image ≡ list_page r.number 8 xs = subst (λ (j : ℕ). page_of (table_page s (header_page r.number) j) image ≡ list_page r.number j xs) eighth page in
-                subst (λ (j : ℕ). page_of (table_page s (header_page r.number) j) image ≡ area_page r.number (record { scales = a.scales; parts = a.parts ++ xs; table = a.table }) j) same
-                (now ∙ ap (λ ys. list_page r.number 8 (ys ++ xs)) (sym nothing))
+                let now : page_of (table_page s (header_page r.number) 8) image ≡ list_spelling r.number 8 xs = subst (λ (j : ℕ). page_of (table_page s (header_page r.number) j) image ≡ list_spelling r.number j xs) eighth page in
+                subst (λ (j : ℕ). page_of (table_page s (header_page r.number) j) image ≡ area_spelling r.number (record { scales = a.scales; parts = a.parts ++ xs; table = a.table }) j) same
+                (now ∙ ap (λ ys. list_spelling r.number 8 (ys ++ xs)) (sym nothing))
           ];
         }
 
     -- by a page of the table
-    pub grow_table : (xs : List ℕ) → 9 ≤ n → page_of (table_page s (header_page r.number) n) image ≡ bucket_table_page r.number n xs → length xs ≡ min 1000 (s.pages - 1000 * (n - 9))
+    pub grow_table : (xs : List ℕ) → 9 ≤ n → page_of (table_page s (header_page r.number) n) image ≡ bucket_table_spelling r.number n xs → length xs ≡ min 1000 (s.pages - 1000 * (n - 9))
         → All (λ p. p < s.pages) (a.parts ++ pages_named (a.table ++ xs)) → AreDistinct (a.parts ++ pages_named (a.table ++ xs)) → SpellsUpTo s image r (n + 1) (record { scales = a.scales; parts = a.parts; table = a.table ++ xs })
     grow_table xs ninth page count named distinct =
         let w = within-limits s lawful in
@@ -159,17 +159,17 @@ module _ (s : Shape) (image : List ℕ) (r : RootFields) (lawful : IsTrue (is_sh
               | inl scale ↦ spelled.pages k below ∙ area_page_scale r.number a k scale ∙ sym (area_page_scale r.number new k scale)
               | inr behind ↦ elim (cases_eq k 8) [
                 | inl eighth ↦
-                    let at_eight : page_of (table_page s (header_page r.number) 8) image ≡ area_page r.number a 8 = spelled.pages 8 (omega (arith, eighth, below)) in
-                    subst (λ (j : ℕ). page_of (table_page s (header_page r.number) j) image ≡ area_page r.number new j) (sym eighth) at_eight
+                    let at_eight : page_of (table_page s (header_page r.number) 8) image ≡ area_spelling r.number a 8 = spelled.pages 8 (omega (arith, eighth, below)) in
+                    subst (λ (j : ℕ). page_of (table_page s (header_page r.number) j) image ≡ area_spelling r.number new j) (sym eighth) at_eight
                 | inr other ↦
                     let table : 9 ≤ k = omega (arith, behind, other) in
                     let part : take 1000 (drop (1000 * (k - 9)) (a.table ++ xs)) ≡ take 1000 (drop (1000 * (k - 9)) a.table) = piece_old 1000 (1000 * (k - 9)) from s.pages a.table xs spelled.numbers count (omega (arith, below, table)) in
-                    spelled.pages k below ∙ area_page_table r.number a k table ∙ ap (bucket_table_page r.number k) (sym part) ∙ sym (area_page_table r.number new k table)
+                    spelled.pages k below ∙ area_page_table r.number a k table ∙ ap (bucket_table_spelling r.number k) (sym part) ∙ sym (area_page_table r.number new k table)
               ]
             ]
             | inr not_below ↦
                 let same : n ≡ k = omega (arith, lt, not_below) in
                 let part : take 1000 (drop from (a.table ++ xs)) ≡ xs = piece_new 1000 from s.pages a.table xs spelled.numbers count in
-                subst (λ (j : ℕ). page_of (table_page s (header_page r.number) j) image ≡ area_page r.number new j) same (page ∙ ap (bucket_table_page r.number n) (sym part) ∙ sym (area_page_table r.number new n ninth))
+                subst (λ (j : ℕ). page_of (table_page s (header_page r.number) j) image ≡ area_spelling r.number new j) same (page ∙ ap (bucket_table_spelling r.number n) (sym part) ∙ sym (area_page_table r.number new n ninth))
           ];
         }

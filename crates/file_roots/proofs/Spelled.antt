@@ -9,9 +9,9 @@ use Rattle.grid_types.specs.Pages.{page_of}
 use Rattle.grid_types.specs.Shapes.{is_shape, area_pages, header_page, table_page}
 use Rattle.grid_types.proofs.Places.{within-limits, area-small}
 use Rattle.grid_model.specs.Scales.{ascends_from, is_scale, scale_of}
-use Rattle.grid_model.specs.Spellings.{RootFields, scale_page, list_page, bucket_table_page}
+use Rattle.grid_model.specs.Spellings.{RootFields, scale_spelling, list_spelling, bucket_table_spelling}
 use Rattle.grid_model.specs.Lawful.{IsRootOn, Area, pages_named, nowhere}
-use Rattle.grid_model.specs.Images.{area_page, half_of_scale}
+use Rattle.grid_model.specs.Images.{area_spelling, half_of_scale}
 use Rattle.grid_model.proofs.ScaleLaws.{tops, goes-on}
 use Rattle.root_pages.specs.Areas.{SpellsScale, SpellsList, SpellsTable}
 use Rattle.root_pages.proofs.KindsOfPages.{scales, lists, tables, entries_there, one_list_of}
@@ -20,14 +20,14 @@ use Rattle.file_roots.specs.Gathering.{AreOn}
 use Rattle.file_roots.proofs.Pieces.{half_piece, in_piece}
 
 -- the page of a scale, of the list and of the table
-pub area_page_scale : (root : ℕ) (a : Area) (i : ℕ) → i < 8 → area_page root a i ≡ scale_page root i (half_of_scale (i % 2) (scale_of a.scales (i / 2)))
+pub area_page_scale : (root : ℕ) (a : Area) (i : ℕ) → i < 8 → area_spelling root a i ≡ scale_spelling root i (half_of_scale (i % 2) (scale_of a.scales (i / 2)))
 area_page_scale root a i lt =
-    ap (λ t. cond t (scale_page root i (half_of_scale (i % 2) (scale_of a.scales (i / 2)))) (cond (eqb i 8) (list_page root i a.parts) (bucket_table_page root i (take 1000 (drop (1000 * (i - 9)) a.table))))) (lt-ltb i 8 lt)
+    ap (λ t. cond t (scale_spelling root i (half_of_scale (i % 2) (scale_of a.scales (i / 2)))) (cond (eqb i 8) (list_spelling root i a.parts) (bucket_table_spelling root i (take 1000 (drop (1000 * (i - 9)) a.table))))) (lt-ltb i 8 lt)
 
-pub area_page_table : (root : ℕ) (a : Area) (i : ℕ) → 9 ≤ i → area_page root a i ≡ bucket_table_page root i (take 1000 (drop (1000 * (i - 9)) a.table))
+pub area_page_table : (root : ℕ) (a : Area) (i : ℕ) → 9 ≤ i → area_spelling root a i ≡ bucket_table_spelling root i (take 1000 (drop (1000 * (i - 9)) a.table))
 area_page_table root a i le =
-    ap (λ t. cond t (scale_page root i (half_of_scale (i % 2) (scale_of a.scales (i / 2)))) (cond (eqb i 8) (list_page root i a.parts) (bucket_table_page root i (take 1000 (drop (1000 * (i - 9)) a.table))))) (le-ltb i 8 (omega (arith, le)))
-    ∙ ap (λ t. cond t (list_page root i a.parts) (bucket_table_page root i (take 1000 (drop (1000 * (i - 9)) a.table)))) (ne_eqb i 8 (λ e. absurd (omega (arith, e, le))))
+    ap (λ t. cond t (scale_spelling root i (half_of_scale (i % 2) (scale_of a.scales (i / 2)))) (cond (eqb i 8) (list_spelling root i a.parts) (bucket_table_spelling root i (take 1000 (drop (1000 * (i - 9)) a.table))))) (le-ltb i 8 (omega (arith, le)))
+    ∙ ap (λ t. cond t (list_spelling root i a.parts) (bucket_table_spelling root i (take 1000 (drop (1000 * (i - 9)) a.table)))) (ne_eqb i 8 (λ e. absurd (omega (arith, e, le))))
 
 -- boundaries have 64 bits
 ascending_fit : (l : ℕ) (bs : List ℕ) → ascends_from l bs ≡ true → (i : ℕ) → slice_index bs i < 2 ^ 64
@@ -91,7 +91,7 @@ module _ (s : Shape) (image : List ℕ) (r : RootFields) (lawful : IsTrue (is_sh
           index_in_range = omega (arith, le);
           in_range = in_piece (2 ^ 64) 500 (500 * (i % 2)) scale (lit< tt) (scale_fits scale (spelled.scales (i / 2)));
           few = omega (arith, length-take 500 (drop (500 * (i % 2)) scale));
-          bytes = spelled.pages i lt ∙ area_page_scale r.number a i le ∙ ap (scale_page r.number i) (half_piece (i % 2) scale (omega arith) short);
+          bytes = spelled.pages i lt ∙ area_page_scale r.number a i le ∙ ap (scale_spelling r.number i) (half_piece (i % 2) scale (omega arith) short);
         }
 
     -- as many as there are
@@ -129,20 +129,20 @@ module _ (s : Shape) (image : List ℕ) (r : RootFields) (lawful : IsTrue (is_sh
 
 -- entries that are spelled stand on their page
 pub scale_on : (root index : ℕ) (page xs : List ℕ) → SpellsScale root index page xs → AreOn 8 page xs
-scale_on root index page xs s = (entries_there 8 (codes "GFS1") scale_page 500 64 scales root index page xs s).each
+scale_on root index page xs s = (entries_there 8 (codes "GFS1") scale_spelling 500 64 scales root index page xs s).each
 
 pub list_on : (root index : ℕ) (page xs : List ℕ) → SpellsList root index page xs → AreOn 4 page xs
-list_on root index page xs s = (entries_there 4 (codes "GFL1") list_page 1000 32 lists root index page xs s).each
+list_on root index page xs s = (entries_there 4 (codes "GFL1") list_spelling 1000 32 lists root index page xs s).each
 
 pub table_on : (root index : ℕ) (page xs : List ℕ) → SpellsTable root index page xs → AreOn 4 page xs
-table_on root index page xs s = (entries_there 4 (codes "GFT1") bucket_table_page 1000 32 tables root index page xs s).each
+table_on root index page xs s = (entries_there 4 (codes "GFT1") bucket_table_spelling 1000 32 tables root index page xs s).each
 
 -- and are the only ones
 pub one_scale : (root index : ℕ) (page xs ys : List ℕ) → SpellsScale root index page xs → SpellsScale root index page ys → xs ≡ ys
-one_scale root index page xs ys s t = (one_list_of 8 (codes "GFS1") scale_page 500 64 scales root root index index page xs ys s t).entries_are
+one_scale root index page xs ys s t = (one_list_of 8 (codes "GFS1") scale_spelling 500 64 scales root root index index page xs ys s t).entries_are
 
 pub one_list : (root index : ℕ) (page xs ys : List ℕ) → SpellsList root index page xs → SpellsList root index page ys → xs ≡ ys
-one_list root index page xs ys s t = (one_list_of 4 (codes "GFL1") list_page 1000 32 lists root root index index page xs ys s t).entries_are
+one_list root index page xs ys s t = (one_list_of 4 (codes "GFL1") list_spelling 1000 32 lists root root index index page xs ys s t).entries_are
 
 pub one_table : (root index : ℕ) (page xs ys : List ℕ) → SpellsTable root index page xs → SpellsTable root index page ys → xs ≡ ys
-one_table root index page xs ys s t = (one_list_of 4 (codes "GFT1") bucket_table_page 1000 32 tables root root index index page xs ys s t).entries_are
+one_table root index page xs ys s t = (one_list_of 4 (codes "GFT1") bucket_table_spelling 1000 32 tables root root index index page xs ys s t).entries_are

@@ -7,7 +7,7 @@ use Rattle.grid_model.specs.Lists.{AreDistinct}
 use Rattle.grid_model.specs.Scales.{is_scale, scale_of}
 use Rattle.grid_model.specs.Spellings.{RootFields}
 use Rattle.grid_model.specs.Lawful.{IsRootOn, Area, pages_named}
-use Rattle.grid_model.specs.Images.{header_gate, IsOpenOver, IsNewest, HasArea, area_page}
+use Rattle.grid_model.specs.Images.{header_gate, IsOpenOver, IsNewest, HasArea, area_spelling}
 use Rattle.file_roots.specs.Headers.{number_of}
 
 -- the first n pages of a root's table area say this of an area: as many of the root's boundaries, parts and numbers as stand on them; the boundaries of each scale ascend, and each data page is one and is named once
@@ -19,7 +19,7 @@ pub record SpellsUpTo (s : Shape) (image : List ℕ) (r : RootFields) (n : ℕ) 
   pub scales : (i : ℕ) → IsTrue (is_scale (scale_of a.scales i))
   pub named : All (λ p. p < s.pages) (a.parts ++ pages_named a.table)
   pub distinct : AreDistinct (a.parts ++ pages_named a.table)
-  pub pages : (i : ℕ) → i < n → page_of (table_page s (header_page r.number) i) image ≡ area_page r.number a i
+  pub pages : (i : ℕ) → i < n → page_of (table_page s (header_page r.number) i) image ≡ area_spelling r.number a i
 
 -- the first n pages of a root's table area are spelled: they say so much of an area, and with all pages the buckets are the root's
 pub record HasAreaUpTo (s : Shape) (image : List ℕ) (r : RootFields) (n : ℕ) (a : Area) : Type 0 where

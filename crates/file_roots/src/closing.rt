@@ -11,7 +11,7 @@ ghost use Rattle.file_roots.specs.Replacing.{ComesNext, IsOneOf, IsReady, MayBeW
 
 use crate::header::GATE;
 use disk_trait::{Disk, DiskFailed, Steps, write_through};
-use grid_types::{Layout, Refusal};
+use grid_types::{Geometry, Refusal};
 use std::sync::ledger::Ledger;
 
 /// Writes 0 on a gate that reads as open, and syncs. A gate that reads as closed is not written, since a crash during the
@@ -44,27 +44,27 @@ fn shut<D: Disk>(disk: &mut D, at: u64, gate: u8) -> Result<(), DiskFailed>
 /// on the other header page, or one that was tried before, is the newest; then a root may be written there.
 pub fn close_root<D: Disk, L: Ledger>(
     disk: &mut D,
-    layout: &Layout,
+    geometry: &Geometry,
     number: u64,
     steps: &mut Steps<L>,
 ) -> Result<(), Refusal>
-    requires lawful { IsTrue (is_shape layout.now.shape) }
-    requires size { file_pages layout.now.shape * 4096 ≤ D.extent disk.old }
+    requires lawful { IsTrue (is_shape geometry.now.shape) }
+    requires size { file_pages geometry.now.shape * 4096 ≤ D.extent disk.old }
     ensures ready { IsTrue (D.honest disk.old)
         → (old : Option WholeRoot) (tried : List WholeRoot)
         → ComesNext old number
-        → MayBeWritten layout.now.shape number (D.seen disk.old) (D.may_leave disk.old) old tried
-        → OnOk result (Always (D.may_leave disk.new) (IsReady layout.now.shape number old)) }
+        → MayBeWritten geometry.now.shape number (D.seen disk.old) (D.may_leave disk.old) old tried
+        → OnOk result (Always (D.may_leave disk.new) (IsReady geometry.now.shape number old)) }
     ensures old_or_tried { IsTrue (D.honest disk.old)
         → (old : Option WholeRoot) (tried : List WholeRoot)
         → ComesNext old number
-        → MayBeWritten layout.now.shape number (D.seen disk.old) (D.may_leave disk.old) old tried
-        → LeavesOnly D.moment D.left_since disk.old disk.new (IsOneOf layout.now.shape old tried) }
+        → MayBeWritten geometry.now.shape number (D.seen disk.old) (D.may_leave disk.old) old tried
+        → LeavesOnly D.moment D.left_since disk.old disk.new (IsOneOf geometry.now.shape old tried) }
     ensures again { IsTrue (D.honest disk.old)
         → (old : Option WholeRoot) (tried : List WholeRoot)
         → ComesNext old number
-        → MayBeWritten layout.now.shape number (D.seen disk.old) (D.may_leave disk.old) old tried
-        → OnErr result (MayBeWritten layout.now.shape number (D.seen disk.new) (D.may_leave disk.new) old tried) }
+        → MayBeWritten geometry.now.shape number (D.seen disk.old) (D.may_leave disk.old) old tried
+        → OnErr result (MayBeWritten geometry.now.shape number (D.seen disk.new) (D.may_leave disk.new) old tried) }
     ensures closed { IsTrue (D.honest disk.old) → OnOk result (header_gate (D.seen disk.new) (header_page number) ≢ 1) }
     ensures durable { IsTrue (D.honest disk.old) → OnOk result (Only (D.seen disk.new) (D.may_leave disk.new)) }
     ensures outside { IsTrue (D.honest disk.old)

@@ -13,20 +13,20 @@ use crate::Root;
 use crate::header::{FIELDS, GATE, write_on_header};
 use crate::root::fields;
 use disk_trait::{Disk, DiskFailed};
-use grid_types::Layout;
+use grid_types::Geometry;
 use root_pages::encode_fields;
 
 /// Writes the fields of a root, and syncs.
 fn write_fields<const K: usize, D: Disk>(
     disk: &mut D,
-    layout: &Layout,
+    geometry: &Geometry,
     root: &Root<K>,
 ) -> Result<(), DiskFailed>
-    requires lawful { IsTrue (is_shape layout.now.shape) }
+    requires lawful { IsTrue (is_shape geometry.now.shape) }
     requires few { K ≤ 4 }
-    requires attributes { layout.now.shape.k ≡ K }
-    requires root { IsRoot layout.now.shape root.now }
-    requires size { file_pages layout.now.shape * 4096 ≤ D.extent disk.old }
+    requires attributes { geometry.now.shape.k ≡ K }
+    requires root { IsRoot geometry.now.shape root.now }
+    requires size { file_pages geometry.now.shape * 4096 ≤ D.extent disk.old }
     ensures fields { IsTrue (D.honest disk.old)
         → OnOk result (root_fields (D.seen disk.new) (header_page root.now.number) ≡ root_bytes (fields_of root.now)) }
     ensures durable { IsTrue (D.honest disk.old) → OnOk result (Only (D.seen disk.new) (D.may_leave disk.new)) }
@@ -49,30 +49,30 @@ fn write_fields<const K: usize, D: Disk>(
 /// is no root, or this one. After a failure it may be tried again.
 pub fn finish_root<const K: usize, D: Disk>(
     disk: &mut D,
-    layout: &Layout,
+    geometry: &Geometry,
     root: &Root<K>,
 ) -> Result<(), DiskFailed>
-    requires lawful { IsTrue (is_shape layout.now.shape) }
+    requires lawful { IsTrue (is_shape geometry.now.shape) }
     requires few { K ≤ 4 }
-    requires attributes { layout.now.shape.k ≡ K }
-    requires root { IsRoot layout.now.shape root.now }
-    requires size { file_pages layout.now.shape * 4096 ≤ D.extent disk.old }
+    requires attributes { geometry.now.shape.k ≡ K }
+    requires root { IsRoot geometry.now.shape root.now }
+    requires size { file_pages geometry.now.shape * 4096 ≤ D.extent disk.old }
     ensures old_or_new { IsTrue (D.honest disk.old)
         → (old : Option WholeRoot)
         → ComesNext old root.now.number
-        → HasArea layout.now.shape (D.seen disk.old) (fields_of root.now) (area_of root.now)
-        → Always (D.may_leave disk.old) (IsReady layout.now.shape root.now.number old)
-        → LeavesOnly D.moment D.left_since disk.old disk.new (IsOneOf layout.now.shape old (whole_of root.now ∷ [])) }
+        → HasArea geometry.now.shape (D.seen disk.old) (fields_of root.now) (area_of root.now)
+        → Always (D.may_leave disk.old) (IsReady geometry.now.shape root.now.number old)
+        → LeavesOnly D.moment D.left_since disk.old disk.new (IsOneOf geometry.now.shape old (whole_of root.now ∷ [])) }
     ensures again { IsTrue (D.honest disk.old)
         → (old : Option WholeRoot)
         → ComesNext old root.now.number
-        → HasArea layout.now.shape (D.seen disk.old) (fields_of root.now) (area_of root.now)
-        → Always (D.may_leave disk.old) (IsReady layout.now.shape root.now.number old)
-        → OnErr result (MayBeWritten layout.now.shape root.now.number (D.seen disk.new) (D.may_leave disk.new) old (whole_of root.now ∷ [])) }
+        → HasArea geometry.now.shape (D.seen disk.old) (fields_of root.now) (area_of root.now)
+        → Always (D.may_leave disk.old) (IsReady geometry.now.shape root.now.number old)
+        → OnErr result (MayBeWritten geometry.now.shape root.now.number (D.seen disk.new) (D.may_leave disk.new) old (whole_of root.now ∷ [])) }
     ensures finished { IsTrue (D.honest disk.old)
-        → HasArea layout.now.shape (D.seen disk.old) (fields_of root.now) (area_of root.now)
-        → IsOtherOlder layout.now.shape root.now.number (D.seen disk.old)
-        → OnOk result (IsWhole layout.now.shape (fields_of root.now) (area_of root.now) (D.seen disk.new)) }
+        → HasArea geometry.now.shape (D.seen disk.old) (fields_of root.now) (area_of root.now)
+        → IsOtherOlder geometry.now.shape root.now.number (D.seen disk.old)
+        → OnOk result (IsWhole geometry.now.shape (fields_of root.now) (area_of root.now) (D.seen disk.new)) }
     ensures elsewhere { IsTrue (D.honest disk.old)
         → LeavesOnly D.moment D.left_since disk.old disk.new (After (AgreesOutside (header_ranges (header_page root.now.number))) (D.may_leave disk.old)) }
     ensures outside { IsTrue (D.honest disk.old)
@@ -83,7 +83,7 @@ pub fn finish_root<const K: usize, D: Disk>(
     ensures cause { HasCause (D.write_count disk.old) (D.write_count disk.new) result }
     ensures other { D.read_count disk.old ≤ D.read_count disk.new }
 {
-    match write_fields(disk, layout, root) {
+    match write_fields(disk, geometry, root) {
         Ok(()) => {}
         Err(DiskFailed) => return Err(DiskFailed),
     }

@@ -9,7 +9,7 @@ ghost use Rattle.file_roots.specs.Gathering.{IsGathered, HasGathered, HasRoom};
 
 use crate::gathering::{Gathered, take_boundaries, take_pages};
 use crate::root::count_named;
-use grid_types::{Layout, Shape};
+use grid_types::{Geometry, Shape};
 use root_pages::{RootFields, is_list_page, is_scale_page, is_table_page};
 use std::alloc::AllocError;
 
@@ -161,32 +161,32 @@ fn take_page<const K: usize>(
 /// Takes a page of the table area, unless it is not spelled for the root. With the last page the buckets are counted.
 pub fn take_part<const K: usize>(
     gathered: &mut Gathered<K>,
-    layout: &Layout,
+    geometry: &Geometry,
     fields: &RootFields<K>,
     i: u32,
     page: &[u8; 4096],
 ) -> Result<bool, AllocError>
-    requires lawful { IsTrue (is_shape layout.now.shape) }
-    requires root { IsRootOn layout.now.shape (header_page fields.now.number) (pages.fields_of fields.now) }
+    requires lawful { IsTrue (is_shape geometry.now.shape) }
+    requires root { IsRootOn geometry.now.shape (header_page fields.now.number) (pages.fields_of fields.now) }
     requires attributes { length fields.now.boundaries ≡ K }
-    requires inside { i < area_pages layout.now.shape }
-    requires room { HasRoom layout.now.shape gathered.old }
+    requires inside { i < area_pages geometry.now.shape }
+    requires room { HasRoom geometry.now.shape gathered.old }
     ensures gathered { (image : List ℕ)
-        → page_of (table_page layout.now.shape (header_page fields.now.number) i) image ≡ page.now
-        → HasGathered layout.now.shape image (pages.fields_of fields.now) i gathered.old
-        → IfOk result (λ t. IsTrue t → HasGathered layout.now.shape image (pages.fields_of fields.now) (i + 1) gathered.new) }
+        → page_of (table_page geometry.now.shape (header_page fields.now.number) i) image ≡ page.now
+        → HasGathered geometry.now.shape image (pages.fields_of fields.now) i gathered.old
+        → IfOk result (λ t. IsTrue t → HasGathered geometry.now.shape image (pages.fields_of fields.now) (i + 1) gathered.new) }
     ensures refused { (image : List ℕ)
-        → page_of (table_page layout.now.shape (header_page fields.now.number) i) image ≡ page.now
-        → HasGathered layout.now.shape image (pages.fields_of fields.now) i gathered.old
-        → IfOk result (λ t. t ≡ false → (a : Area) → HasAreaUpTo layout.now.shape image (pages.fields_of fields.now) (i + 1) a → ⊥) }
-    ensures room { HasRoom layout.now.shape gathered.new }
+        → page_of (table_page geometry.now.shape (header_page fields.now.number) i) image ≡ page.now
+        → HasGathered geometry.now.shape image (pages.fields_of fields.now) i gathered.old
+        → IfOk result (λ t. t ≡ false → (a : Area) → HasAreaUpTo geometry.now.shape image (pages.fields_of fields.now) (i + 1) a → ⊥) }
+    ensures room { HasRoom geometry.now.shape gathered.new }
 {
-    match take_page(gathered, &layout.shape, fields, i, page) {
+    match take_page(gathered, &geometry.shape, fields, i, page) {
         Ok(true) => {}
         Ok(false) => return Ok(false),
         Err(AllocError) => return Err(AllocError),
     }
-    if i + 1 < layout.area_pages() {
+    if i + 1 < geometry.area_pages() {
         return Ok(true);
     }
     Ok(count_named(gathered.table.list()) == fields.buckets as usize)

@@ -19,7 +19,7 @@ use crate::choosing::choose;
 use crate::gathering::Gathered;
 use crate::judging::take_part;
 use disk_trait::{Disk, DiskFailed, Steps};
-use grid_types::{Layout, Refusal};
+use grid_types::{Geometry, Refusal};
 use root_pages::RootFields;
 use std::alloc::{AllocError, Global};
 use std::sync::ledger::Ledger;
@@ -27,19 +27,19 @@ use std::sync::ledger::Ledger;
 /// Reads both header pages, and chooses the newest root.
 fn read_fields<const K: usize, D: Disk, L: Ledger>(
     disk: &mut D,
-    layout: &Layout,
+    geometry: &Geometry,
     steps: &mut Steps<L>,
 ) -> Result<RootFields<K>, Refusal>
-    requires lawful { IsTrue (is_shape layout.now.shape) }
-    requires attributes { layout.now.shape.k ≡ K }
-    requires size { file_pages layout.now.shape * 4096 ≤ D.extent disk.old }
+    requires lawful { IsTrue (is_shape geometry.now.shape) }
+    requires attributes { geometry.now.shape.k ≡ K }
+    requires size { file_pages geometry.now.shape * 4096 ≤ D.extent disk.old }
     ensures found { IsTrue (D.honest disk.old)
-        → IfOk result (λ f. IsNewest layout.now.shape (D.seen disk.old) (pages.fields_of f)) }
-    ensures lawful { IfOk result (λ f. IsRootOn layout.now.shape (header_page f.number) (pages.fields_of f)) }
+        → IfOk result (λ f. IsNewest geometry.now.shape (D.seen disk.old) (pages.fields_of f)) }
+    ensures lawful { IfOk result (λ f. IsRootOn geometry.now.shape (header_page f.number) (pages.fields_of f)) }
     ensures damaged { IsTrue (D.honest disk.old)
         → (p : ℕ)
         → IsErrOf result (Damaged p)
-        → IsRootDamage layout.now.shape (D.seen disk.old) p }
+        → IsRootDamage geometry.now.shape (D.seen disk.old) p }
     ensures read_fault { IsErrOf result ReadFault → Rose (D.read_count disk.old) (D.read_count disk.new) }
     ensures no_other { IfErr result (λ e. (e ≡ ReadFault) ⊎ ((p : ℕ) × (e ≡ Damaged p))) }
     ensures seen { IsTrue (D.honest disk.old) → D.seen disk.new ≡ D.seen disk.old }
@@ -62,35 +62,35 @@ fn read_fields<const K: usize, D: Disk, L: Ledger>(
         Ok(()) => {}
         Err(DiskFailed) => return Err(Refusal::ReadFault),
     }
-    choose(&zeroth, &first, &layout.shape)
+    choose(&zeroth, &first, &geometry.shape)
 }
 
 /// Reads page `i` of the root's table area, and takes what it says.
 fn read_part<const K: usize, D: Disk, L: Ledger>(
     disk: &mut D,
-    layout: &Layout,
+    geometry: &Geometry,
     fields: &RootFields<K>,
     gathered: &mut Gathered<K>,
     i: u32,
     steps: &mut Steps<L>,
 ) -> Result<(), Refusal>
-    requires lawful { IsTrue (is_shape layout.now.shape) }
-    requires root { IsRootOn layout.now.shape (header_page fields.now.number) (pages.fields_of fields.now) }
+    requires lawful { IsTrue (is_shape geometry.now.shape) }
+    requires root { IsRootOn geometry.now.shape (header_page fields.now.number) (pages.fields_of fields.now) }
     requires attributes { length fields.now.boundaries ≡ K }
-    requires inside { i < area_pages layout.now.shape }
-    requires room { HasRoom layout.now.shape gathered.old }
-    requires size { file_pages layout.now.shape * 4096 ≤ D.extent disk.old }
+    requires inside { i < area_pages geometry.now.shape }
+    requires room { HasRoom geometry.now.shape gathered.old }
+    requires size { file_pages geometry.now.shape * 4096 ≤ D.extent disk.old }
     ensures gathered { IsTrue (D.honest disk.old)
-        → HasGathered layout.now.shape (D.seen disk.old) (pages.fields_of fields.now) i gathered.old
-        → OnOk result (HasGathered layout.now.shape (D.seen disk.old) (pages.fields_of fields.now) (i + 1) gathered.new) }
-    ensures lawful { MayBeGathered layout.now.shape (pages.fields_of fields.now) i gathered.old
-        → OnOk result (MayBeGathered layout.now.shape (pages.fields_of fields.now) (i + 1) gathered.new) }
+        → HasGathered geometry.now.shape (D.seen disk.old) (pages.fields_of fields.now) i gathered.old
+        → OnOk result (HasGathered geometry.now.shape (D.seen disk.old) (pages.fields_of fields.now) (i + 1) gathered.new) }
+    ensures lawful { MayBeGathered geometry.now.shape (pages.fields_of fields.now) i gathered.old
+        → OnOk result (MayBeGathered geometry.now.shape (pages.fields_of fields.now) (i + 1) gathered.new) }
     ensures damaged { IsTrue (D.honest disk.old)
-        → HasGathered layout.now.shape (D.seen disk.old) (pages.fields_of fields.now) i gathered.old
+        → HasGathered geometry.now.shape (D.seen disk.old) (pages.fields_of fields.now) i gathered.old
         → (p : ℕ)
         → IsErrOf result (Damaged p)
-        → HasBadPart layout.now.shape (D.seen disk.old) (pages.fields_of fields.now) p }
-    ensures room { HasRoom layout.now.shape gathered.new }
+        → HasBadPart geometry.now.shape (D.seen disk.old) (pages.fields_of fields.now) p }
+    ensures room { HasRoom geometry.now.shape gathered.new }
     ensures read_fault { IsErrOf result ReadFault → Rose (D.read_count disk.old) (D.read_count disk.new) }
     ensures no_other { IfErr result (λ e. (e ≡ NoMemory) ⊎ ((e ≡ ReadFault) ⊎ ((p : ℕ) × (e ≡ Damaged p)))) }
     ensures seen { IsTrue (D.honest disk.old) → D.seen disk.new ≡ D.seen disk.old }
@@ -102,13 +102,13 @@ fn read_part<const K: usize, D: Disk, L: Ledger>(
     ensures writes { D.write_count disk.old ≤ D.write_count disk.new }
     ensures ticks { steps.new ≡ steps.old + 1 }
 {
-    let number = layout.table_page((fields.number % 2) as u8, i);
+    let number = geometry.table_page((fields.number % 2) as u8, i);
     let mut page = [0; 4096];
     match disk.read(number.into(), &mut page, steps) {
         Ok(()) => {}
         Err(DiskFailed) => return Err(Refusal::ReadFault),
     }
-    match take_part(gathered, layout, fields, i, &page) {
+    match take_part(gathered, geometry, fields, i, &page) {
         Ok(true) => Ok(()),
         Ok(false) => Err(Refusal::Damaged { page: number }),
         Err(AllocError) => Err(Refusal::NoMemory),
@@ -118,27 +118,27 @@ fn read_part<const K: usize, D: Disk, L: Ledger>(
 /// Reads the root's table area, page by page.
 fn read_area<const K: usize, D: Disk, L: Ledger>(
     disk: &mut D,
-    layout: &Layout,
+    geometry: &Geometry,
     fields: &RootFields<K>,
     gathered: &mut Gathered<K>,
     steps: &mut Steps<L>,
 ) -> Result<(), Refusal>
-    requires lawful { IsTrue (is_shape layout.now.shape) }
-    requires root { IsRootOn layout.now.shape (header_page fields.now.number) (pages.fields_of fields.now) }
+    requires lawful { IsTrue (is_shape geometry.now.shape) }
+    requires root { IsRootOn geometry.now.shape (header_page fields.now.number) (pages.fields_of fields.now) }
     requires attributes { length fields.now.boundaries ≡ K }
-    requires room { HasRoom layout.now.shape gathered.old }
-    requires size { file_pages layout.now.shape * 4096 ≤ D.extent disk.old }
+    requires room { HasRoom geometry.now.shape gathered.old }
+    requires size { file_pages geometry.now.shape * 4096 ≤ D.extent disk.old }
     ensures gathered { IsTrue (D.honest disk.old)
-        → HasGathered layout.now.shape (D.seen disk.old) (pages.fields_of fields.now) 0 gathered.old
-        → OnOk result (HasGathered layout.now.shape (D.seen disk.old) (pages.fields_of fields.now) (area_pages layout.now.shape) gathered.new) }
-    ensures lawful { MayBeGathered layout.now.shape (pages.fields_of fields.now) 0 gathered.old
-        → OnOk result (MayBeGathered layout.now.shape (pages.fields_of fields.now) (area_pages layout.now.shape) gathered.new) }
+        → HasGathered geometry.now.shape (D.seen disk.old) (pages.fields_of fields.now) 0 gathered.old
+        → OnOk result (HasGathered geometry.now.shape (D.seen disk.old) (pages.fields_of fields.now) (area_pages geometry.now.shape) gathered.new) }
+    ensures lawful { MayBeGathered geometry.now.shape (pages.fields_of fields.now) 0 gathered.old
+        → OnOk result (MayBeGathered geometry.now.shape (pages.fields_of fields.now) (area_pages geometry.now.shape) gathered.new) }
     ensures damaged { IsTrue (D.honest disk.old)
-        → HasGathered layout.now.shape (D.seen disk.old) (pages.fields_of fields.now) 0 gathered.old
+        → HasGathered geometry.now.shape (D.seen disk.old) (pages.fields_of fields.now) 0 gathered.old
         → (p : ℕ)
         → IsErrOf result (Damaged p)
-        → HasBadPart layout.now.shape (D.seen disk.old) (pages.fields_of fields.now) p }
-    ensures room { HasRoom layout.now.shape gathered.new }
+        → HasBadPart geometry.now.shape (D.seen disk.old) (pages.fields_of fields.now) p }
+    ensures room { HasRoom geometry.now.shape gathered.new }
     ensures read_fault { IsErrOf result ReadFault → Rose (D.read_count disk.old) (D.read_count disk.new) }
     ensures no_other { IfErr result (λ e. (e ≡ NoMemory) ⊎ ((e ≡ ReadFault) ⊎ ((p : ℕ) × (e ≡ Damaged p)))) }
     ensures seen { IsTrue (D.honest disk.old) → D.seen disk.new ≡ D.seen disk.old }
@@ -148,11 +148,11 @@ fn read_area<const K: usize, D: Disk, L: Ledger>(
     ensures honest { D.honest disk.new ≡ D.honest disk.old }
     ensures reads { D.read_count disk.old ≤ D.read_count disk.new }
     ensures writes { D.write_count disk.old ≤ D.write_count disk.new }
-    ensures ticks { steps.new ≤ steps.old + area_pages layout.now.shape }
-    ensures all_ticks { OnOk result (steps.new ≡ steps.old + area_pages layout.now.shape) }
+    ensures ticks { steps.new ≤ steps.old + area_pages geometry.now.shape }
+    ensures all_ticks { OnOk result (steps.new ≡ steps.old + area_pages geometry.now.shape) }
 {
-    for i in 0..layout.area_pages() {
-        match read_part(disk, layout, fields, gathered, i, steps) {
+    for i in 0..geometry.area_pages() {
+        match read_part(disk, geometry, fields, gathered, i, steps) {
             Ok(()) => {}
             Err(refusal) => return Err(refusal),
         }
@@ -165,36 +165,36 @@ fn read_area<const K: usize, D: Disk, L: Ledger>(
 pub fn read_newest<const K: usize, D: Disk, L: Ledger>(
     alloc: Global,
     disk: &mut D,
-    layout: &Layout,
+    geometry: &Geometry,
     steps: &mut Steps<L>,
 ) -> Result<Root<K>, Refusal>
-    requires lawful { IsTrue (is_shape layout.now.shape) }
+    requires lawful { IsTrue (is_shape geometry.now.shape) }
     requires few { K ≤ 4 }
-    requires attributes { layout.now.shape.k ≡ K }
-    requires size { file_pages layout.now.shape * 4096 ≤ D.extent disk.old }
+    requires attributes { geometry.now.shape.k ≡ K }
+    requires size { file_pages geometry.now.shape * 4096 ≤ D.extent disk.old }
     ensures found { IsTrue (D.honest disk.old)
-        → IfOk result (λ r. IsWhole layout.now.shape (fields_of r) (area_of r) (D.seen disk.old)) }
+        → IfOk result (λ r. IsWhole geometry.now.shape (fields_of r) (area_of r) (D.seen disk.old)) }
     ensures only { IsTrue (D.honest disk.old)
         → (r : model.RootFields) (a : Area)
-        → IsNewest layout.now.shape (D.seen disk.old) r
-        → HasArea layout.now.shape (D.seen disk.old) r a
+        → IsNewest geometry.now.shape (D.seen disk.old) r
+        → HasArea geometry.now.shape (D.seen disk.old) r a
         → IfOk result (λ root. (fields_of root ≡ r) × (area_of root ≡ a)) }
     ensures undamaged { IsTrue (D.honest disk.old)
         → (r : model.RootFields) (a : Area)
-        → IsNewest layout.now.shape (D.seen disk.old) r
-        → HasArea layout.now.shape (D.seen disk.old) r a
+        → IsNewest geometry.now.shape (D.seen disk.old) r
+        → HasArea geometry.now.shape (D.seen disk.old) r a
         → (p : ℕ)
         → IsErrOf result (Damaged p)
         → ⊥ }
-    ensures lawful { IfOk result (λ r. IsRoot layout.now.shape r) }
-    ensures limits { IfOk result (λ r. limits_of r.scales ≡ replicate K layout.now.shape.boundaries) }
+    ensures lawful { IfOk result (λ r. IsRoot geometry.now.shape r) }
+    ensures limits { IfOk result (λ r. limits_of r.scales ≡ replicate K geometry.now.shape.boundaries) }
     ensures damaged { IsTrue (D.honest disk.old)
         → (p : ℕ)
         → IsErrOf result (Damaged p)
-        → IsRootDamage layout.now.shape (D.seen disk.old) p }
+        → IsRootDamage geometry.now.shape (D.seen disk.old) p }
     ensures no_memory { IsTrue (D.honest disk.old)
         → IsErrOf result NoMemory
-        → (r : model.RootFields) × IsNewest layout.now.shape (D.seen disk.old) r }
+        → (r : model.RootFields) × IsNewest geometry.now.shape (D.seen disk.old) r }
     ensures read_fault { IsErrOf result ReadFault → Rose (D.read_count disk.old) (D.read_count disk.new) }
     ensures no_other { IfErr result (λ e. (e ≡ NoMemory) ⊎ ((e ≡ ReadFault) ⊎ ((p : ℕ) × (e ≡ Damaged p)))) }
     ensures seen { IsTrue (D.honest disk.old) → D.seen disk.new ≡ D.seen disk.old }
@@ -204,18 +204,18 @@ pub fn read_newest<const K: usize, D: Disk, L: Ledger>(
     ensures honest { D.honest disk.new ≡ D.honest disk.old }
     ensures reads { D.read_count disk.old ≤ D.read_count disk.new }
     ensures writes { D.write_count disk.old ≤ D.write_count disk.new }
-    ensures ticks { steps.new ≤ steps.old + (2 + area_pages layout.now.shape) }
-    ensures all_ticks { OnOk result (steps.new ≡ steps.old + (2 + area_pages layout.now.shape)) }
+    ensures ticks { steps.new ≤ steps.old + (2 + area_pages geometry.now.shape) }
+    ensures all_ticks { OnOk result (steps.new ≡ steps.old + (2 + area_pages geometry.now.shape)) }
 {
-    let fields = match read_fields::<K, _, _>(disk, layout, steps) {
+    let fields = match read_fields::<K, _, _>(disk, geometry, steps) {
         Ok(fields) => fields,
         Err(refusal) => return Err(refusal),
     };
-    let mut gathered = match Gathered::<K>::new(alloc, &layout.shape) {
+    let mut gathered = match Gathered::<K>::new(alloc, &geometry.shape) {
         Ok(gathered) => gathered,
         Err(AllocError) => return Err(Refusal::NoMemory),
     };
-    match read_area(disk, layout, &fields, &mut gathered, steps) {
+    match read_area(disk, geometry, &fields, &mut gathered, steps) {
         Ok(()) => {}
         Err(refusal) => return Err(refusal),
     }

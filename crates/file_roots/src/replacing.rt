@@ -11,7 +11,7 @@ ghost use Rattle.file_roots.specs.Replacing.{IsWhole, IsOneOf, ComesNext, IsOthe
 use crate::parts::write_parts;
 use crate::{Root, close_root, finish_root};
 use disk_trait::{Disk, DiskFailed, Steps};
-use grid_types::{Layout, Refusal};
+use grid_types::{Geometry, Refusal};
 use std::sync::ledger::Ledger;
 
 /// Closes the header page of a root, writes its table area, and finishes it. At each moment of it the old root, which
@@ -19,32 +19,32 @@ use std::sync::ledger::Ledger;
 /// tried to write and failed. In a new file there is no root, or this one. After a failure it may be tried again.
 pub fn replace_root<const K: usize, D: Disk, L: Ledger>(
     disk: &mut D,
-    layout: &Layout,
+    geometry: &Geometry,
     root: &Root<K>,
     steps: &mut Steps<L>,
 ) -> Result<(), Refusal>
-    requires lawful { IsTrue (is_shape layout.now.shape) }
+    requires lawful { IsTrue (is_shape geometry.now.shape) }
     requires few { K ≤ 4 }
-    requires attributes { layout.now.shape.k ≡ K }
-    requires root { IsRoot layout.now.shape root.now }
-    requires size { file_pages layout.now.shape * 4096 ≤ D.extent disk.old }
+    requires attributes { geometry.now.shape.k ≡ K }
+    requires root { IsRoot geometry.now.shape root.now }
+    requires size { file_pages geometry.now.shape * 4096 ≤ D.extent disk.old }
     ensures old_or_new { IsTrue (D.honest disk.old)
         → (old : Option WholeRoot) (tried : List WholeRoot)
         → ComesNext old root.now.number
-        → MayBeWritten layout.now.shape root.now.number (D.seen disk.old) (D.may_leave disk.old) old tried
-        → LeavesOnly D.moment D.left_since disk.old disk.new (IsOneOf layout.now.shape old (whole_of root.now ∷ tried)) }
+        → MayBeWritten geometry.now.shape root.now.number (D.seen disk.old) (D.may_leave disk.old) old tried
+        → LeavesOnly D.moment D.left_since disk.old disk.new (IsOneOf geometry.now.shape old (whole_of root.now ∷ tried)) }
     ensures again { IsTrue (D.honest disk.old)
         → (old : Option WholeRoot) (tried : List WholeRoot)
         → ComesNext old root.now.number
-        → MayBeWritten layout.now.shape root.now.number (D.seen disk.old) (D.may_leave disk.old) old tried
-        → OnErr result (MayBeWritten layout.now.shape root.now.number (D.seen disk.new) (D.may_leave disk.new) old (whole_of root.now ∷ tried)) }
+        → MayBeWritten geometry.now.shape root.now.number (D.seen disk.old) (D.may_leave disk.old) old tried
+        → OnErr result (MayBeWritten geometry.now.shape root.now.number (D.seen disk.new) (D.may_leave disk.new) old (whole_of root.now ∷ tried)) }
     ensures replaced { IsTrue (D.honest disk.old)
-        → IsOtherOlder layout.now.shape root.now.number (D.seen disk.old)
-        → OnOk result (IsWhole layout.now.shape (fields_of root.now) (area_of root.now) (D.seen disk.new)) }
+        → IsOtherOlder geometry.now.shape root.now.number (D.seen disk.old)
+        → OnOk result (IsWhole geometry.now.shape (fields_of root.now) (area_of root.now) (D.seen disk.new)) }
     ensures elsewhere { IsTrue (D.honest disk.old)
-        → LeavesOnly D.moment D.left_since disk.old disk.new (After (AgreesOutside (root_ranges layout.now.shape (header_page root.now.number))) (D.may_leave disk.old)) }
+        → LeavesOnly D.moment D.left_since disk.old disk.new (After (AgreesOutside (root_ranges geometry.now.shape (header_page root.now.number))) (D.may_leave disk.old)) }
     ensures outside { IsTrue (D.honest disk.old)
-        → AgreesOutside (root_ranges layout.now.shape (header_page root.now.number)) (D.seen disk.old) (D.seen disk.new) }
+        → AgreesOutside (root_ranges geometry.now.shape (header_page root.now.number)) (D.seen disk.old) (D.seen disk.new) }
     ensures durable { IsTrue (D.honest disk.old) → OnOk result (Only (D.seen disk.new) (D.may_leave disk.new)) }
     ensures extent { D.extent disk.new ≡ D.extent disk.old }
     ensures honest { D.honest disk.new ≡ D.honest disk.old }
@@ -55,15 +55,15 @@ pub fn replace_root<const K: usize, D: Disk, L: Ledger>(
     ensures writes { D.write_count disk.old ≤ D.write_count disk.new }
     ensures ticks { steps.new ≡ steps.old + 1 }
 {
-    match close_root(disk, layout, root.number, steps) {
+    match close_root(disk, geometry, root.number, steps) {
         Ok(()) => {}
         Err(refusal) => return Err(refusal),
     }
-    match write_parts(disk, layout, root) {
+    match write_parts(disk, geometry, root) {
         Ok(()) => {}
         Err(DiskFailed) => return Err(Refusal::WriteFault),
     }
-    match finish_root(disk, layout, root) {
+    match finish_root(disk, geometry, root) {
         Ok(()) => Ok(()),
         Err(DiskFailed) => Err(Refusal::WriteFault),
     }

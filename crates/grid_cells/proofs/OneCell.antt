@@ -6,7 +6,7 @@ use Rattle.grid_types.proofs.Numbers.{first, second}
 use Rattle.grid_model.specs.Lists.{is_among}
 use Rattle.grid_model.specs.Scales.{is_scale, interval, lows, highs, scale_of, top}
 use Rattle.grid_model.specs.Cells.{cell_of}
-use Rattle.grid_model.specs.Layouts.{Box, IsDrawn}
+use Rattle.grid_model.specs.Layouts.{BucketBox, IsDrawn}
 use Rattle.grid_cells.proofs.Sides.{begins-below, ends-above}
 
 -- two keys that lie in one cell
@@ -71,7 +71,7 @@ highs-alike (s ∷ scales) (h ∷ hi) (x ∷ k) (y ∷ q) o f d =
     λ i. here i && rest i
 
 -- a box whose bounds are drawn has both keys, or neither
-pub box-alike : {K : ℕ} (scales : List (List ℕ)) (b : Box K) (k q : List ℕ) → length scales ≡ K → ((a : ℕ) → a < length scales → is_scale (scale_of scales a) ≡ true) → IsDrawn scales b → InOneCell scales k q
+pub box-alike : {K : ℕ} (scales : List (List ℕ)) (b : BucketBox K) (k q : List ℕ) → length scales ≡ K → ((a : ℕ) → a < length scales → is_scale (scale_of scales a) ≡ true) → IsDrawn scales b → InOneCell scales k q
     → contains b.region k ≡ contains b.region q
 box-alike scales b k q n f d o =
     let begins = lows-alike scales b.region.lo k q o (λ a p. first (is_among (lows (scale_of scales a)) (slice_index b.region.lo a)) (is_among (highs (scale_of scales a)) (slice_index b.region.hi a)) (d a (omega (arith, n, p)))) in

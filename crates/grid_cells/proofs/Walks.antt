@@ -6,7 +6,7 @@ use Rattle.grid_model.specs.Lists.{product}
 use Rattle.grid_model.specs.Cells.{place}
 use Rattle.grid_model.specs.ScaleLaws.{IsCell}
 use Rattle.grid_model.proofs.Places.{place-on}
-use Rattle.grid_cells.specs.Boxes.{InBox, Follows, IsLast}
+use Rattle.grid_cells.specs.Boxes.{InBox, IsNextInBox, IsLast}
 use Rattle.grid_cells.proofs.Products.{place-below}
 
 -- a cell lies in a box of the directory
@@ -151,12 +151,12 @@ nearest (n ∷ ns) (l ∷ lo) (h ∷ hi) (c ∷ cell) (e ∷ other) (suc a) f k 
 
 -- the cell that is one up in the last attribute that may grow follows
 pub follows : (ns lo hi cell next : List ℕ) (a : ℕ) → length lo ≡ length ns → IsCell ns hi → InBox lo hi cell → a < length ns → slice_index cell a < slice_index hi a → ((b : ℕ) → a < b → b < length ns → slice_index cell b ≡ slice_index hi b)
-    → next ≡ take a cell ++ (slice_index cell a + 1) ∷ drop (a + 1) lo → Follows ns lo hi cell next
+    → next ≡ take a cell ++ (slice_index cell a + 1) ∷ drop (a + 1) lo → IsNextInBox ns lo hi cell next
 follows ns lo hi cell next a p h i q r t e =
     let f = lies ns lo hi cell p h i in
     let one : suc a ≡ a + 1 = omega arith in
     let same : stepped cell lo a ≡ next = ap (λ n. take a cell ++ (slice_index cell a + 1) ∷ drop n lo) one ∙ sym e in
-    subst (Follows ns lo hi cell) same (record {
+    subst (IsNextInBox ns lo hi cell) same (record {
       inside = in-box ns lo hi (stepped cell lo a) (stays ns lo hi cell a f q r);
       above = rises ns lo hi cell a f q r;
       least = λ other j s. nearest ns lo hi cell other a f (lies ns lo hi other p h j) q r t s;

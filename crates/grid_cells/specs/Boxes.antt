@@ -9,7 +9,7 @@ pub record InBox (lo hi cell : List ℕ) : Type 0 where
   pub within : Within lo hi cell
 
 -- a cell follows another in a box: it is the one of the least place above
-pub record Follows (ns lo hi cell next : List ℕ) : Type 0 where
+pub record IsNextInBox (ns lo hi cell next : List ℕ) : Type 0 where
   pub inside : InBox lo hi next
   pub above : place ns cell < place ns next
   pub least : (other : List ℕ) → InBox lo hi other → place ns cell < place ns other → place ns next ≤ place ns other

@@ -4,7 +4,7 @@ ghost use Rattle.grid_model.specs.Lists.{product};
 ghost use Rattle.grid_model.specs.Cells.{place};
 ghost use Rattle.grid_model.specs.ScaleLaws.{IsCell};
 ghost use Rattle.grid_cells.specs.Dims.{IsDims};
-ghost use Rattle.grid_cells.specs.Boxes.{InBox, Follows, IsLast};
+ghost use Rattle.grid_cells.specs.Boxes.{InBox, IsNextInBox, IsLast};
 
 use crate::walk;
 
@@ -90,7 +90,7 @@ impl<const K: usize> Dims<K> {
     pub fn next(&self, lo: &[u32; K], hi: &[u32; K], cell: &[u32; K]) -> Option<[u32; K]>
         requires highest { IsCell self.now.n hi.now }
         requires inside { InBox lo.now hi.now cell.now }
-        ensures { MatchOption result (IsLast self.now.n lo.now hi.now cell.now) (Follows self.now.n lo.now hi.now cell.now) }
+        ensures { MatchOption result (IsLast self.now.n lo.now hi.now cell.now) (IsNextInBox self.now.n lo.now hi.now cell.now) }
     {
         let Some(a) = walk::turning(hi, cell) else {
             return None;

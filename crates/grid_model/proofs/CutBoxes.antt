@@ -3,10 +3,10 @@ use Rattle.std.proofs.Common.{◌≡◌, ◌≢◌, ◌<◌, ◌+◌, ℕ, Bool,
 use Rattle.std.specs.Ordering.{eq_by_cmp}
 use Rattle.std.specs.Cmp.{nat_cmp_total}
 use Rattle.std.specs.FinMap.Entries.{put, find-put, is_sorted, is_sorted-put, length-put}
-use Rattle.grid_types.specs.declared.note.Cut.{Cut}
+use Rattle.grid_types.specs.declared.layout_change.Cut.{Cut}
 use Rattle.grid_types.specs.Regions.{contains, IsRegion}
 use Rattle.grid_types.proofs.Numbers.{both, first, second}
-use Rattle.grid_model.specs.Layouts.{Box, Layout, box, holder, EachBox, Apart}
+use Rattle.grid_model.specs.Layouts.{BucketBox, Layout, box, holder, EachBox, Apart}
 use Rattle.grid_model.specs.Cuts.{is_within}
 use Rattle.grid_model.specs.Notes.{left_of, right_of, split}
 use Rattle.grid_model.proofs.CutRegions.{left-contains, right-contains}
@@ -15,14 +15,14 @@ use Rattle.grid_model.proofs.Boxes.{one-value, some-not-none}
 use Rattle.grid_model.proofs.Holders.{holder-box, holder-finds}
 
 -- the boxes after a cut
-box-split : {K : ℕ} (L : Layout K) (n : ℕ) (b : Box K) (c : Cut) (right m : ℕ)
+box-split : {K : ℕ} (L : Layout K) (n : ℕ) (b : BucketBox K) (c : Cut) (right m : ℕ)
     → box (split L n b c right) m ≡ cond (eq_by_cmp nat_cmp m right) (Some (right_of b c)) (cond (eq_by_cmp nat_cmp m n) (Some (left_of b c)) (box L m))
 unfolding split
 box-split L n b c right m =
     find-put nat_cmp nat_cmp_total m right (right_of b c) (put nat_cmp n (left_of b c) L.boxes)
     ∙ ap (λ o. cond (eq_by_cmp nat_cmp m right) (Some (right_of b c)) o) (find-put nat_cmp nat_cmp_total m n (left_of b c) L.boxes)
 
-module _ {K : ℕ} (L : Layout K) (n : ℕ) (b : Box K) (c : Cut) (right : ℕ) (there : box L n ≡ Some b) (unused : box L right ≡ None) where
+module _ {K : ℕ} (L : Layout K) (n : ℕ) (b : BucketBox K) (c : Cut) (right : ℕ) (there : box L n ≡ Some b) (unused : box L right ≡ None) where
   two_boxes : n ≢ right
   two_boxes e = some-not-none b (sym there ∙ ap (box L) e ∙ unused)
 
@@ -40,7 +40,7 @@ module _ {K : ℕ} (L : Layout K) (n : ℕ) (b : Box K) (c : Cut) (right : ℕ) 
       ∙ ap (λ t. cond t (Some (left_of b c)) (box L m)) (no-tie m n l)
 
   -- each box after a cut has P, where its parts and the other boxes have it
-  pub each-part : (P : ℕ → Box K → Type 0) → P n (left_of b c) → P right (right_of b c) → ((m : ℕ) (d : Box K) → box L m ≡ Some d → m ≢ n → P m d) → EachBox (split L n b c right) P
+  pub each-part : (P : ℕ → BucketBox K → Type 0) → P n (left_of b c) → P right (right_of b c) → ((m : ℕ) (d : BucketBox K) → box L m ≡ Some d → m ≢ n → P m d) → EachBox (split L n b c right) P
   each-part P left rest others m d e = by (eq_by_cmp nat_cmp m right) refl
     where
       left_or : (t : Bool) → eq_by_cmp nat_cmp m n ≡ t → m ≢ right → P m d
@@ -82,18 +82,18 @@ module _ {K : ℕ} (L : Layout K) (n : ℕ) (b : Box K) (c : Cut) (right : ℕ) 
         by false e = holder-finds k (split L n b c right) right (right_of b c) box-right
             (right-contains b c k region attribute within ∙ both (contains b.region k) (nat_le c.value (slice_index k c.attribute)) has (le-leb c.value (slice_index k c.attribute) (ltb-false (slice_index k c.attribute) c.value e)))
 
-    box_found : (k : List ℕ) (m : ℕ) (d : Box K) → box L m ≡ Some d → contains d.region k ≡ true → IsSome (holder (split L n b c right) k)
+    box_found : (k : List ℕ) (m : ℕ) (d : BucketBox K) → box L m ≡ Some d → contains d.region k ≡ true → IsSome (holder (split L n b c right) k)
     box_found k m d at has = by (eq_by_cmp nat_cmp m n) refl
       where
         by : (t : Bool) → eq_by_cmp nat_cmp m n ≡ t → IsSome (holder (split L n b c right) k)
-        by true e = let same : d ≡ b = one-value d b (sym at ∙ ap (box L) (one-number m n e) ∙ there) in part_found k (ap (λ (x : Box K). contains x.region k) (sym same) ∙ has)
+        by true e = let same : d ≡ b = one-value d b (sym at ∙ ap (box L) (one-number m n e) ∙ there) in part_found k (ap (λ (x : BucketBox K). contains x.region k) (sym same) ∙ has)
         by false e = holder-finds k (split L n b c right) m d (box-other m (λ r. some-not-none d (sym at ∙ ap (box L) r ∙ unused)) (two-numbers m n e) ∙ at) has
 
     -- a key that was found is found
     pub split-covers : (k : List ℕ) → T (is_sorted nat_cmp L.boxes) → IsSome (holder L k) → IsSome (holder (split L n b c right) k)
     split-covers k s found = by (holder L k) refl found
       where
-        by : (o : Option (ℕ × Box K)) → holder L k ≡ o → IsSome o → IsSome (holder (split L n b c right) k)
+        by : (o : Option (ℕ × BucketBox K)) → holder L k ≡ o → IsSome o → IsSome (holder (split L n b c right) k)
         by None e found = absurd (true≢false (sym found))
         by (Some x) e found = let held = holder-box k L x s e in box_found k x.0 x.1 held.0 held.1
 
@@ -101,7 +101,7 @@ module _ {K : ℕ} (L : Layout K) (n : ℕ) (b : Box K) (c : Cut) (right : ℕ) 
     data Origin (m : ℕ) (k : List ℕ) : Type 0 where
       Right : m ≡ right → contains b.region k ≡ true → nat_le c.value (slice_index k c.attribute) ≡ true → Origin m k
       Left : m ≡ n → contains b.region k ≡ true → nat_lt (slice_index k c.attribute) c.value ≡ true → Origin m k
-      Other : m ≢ n → (d : Box K) → box L m ≡ Some d → contains d.region k ≡ true → Origin m k
+      Other : m ≢ n → (d : BucketBox K) → box L m ≡ Some d → contains d.region k ≡ true → Origin m k
 
     origin : (k : List ℕ) → EachBox (split L n b c right) (λ m d. contains d.region k ≡ true → Origin m k)
     origin k = each-part (λ m d. contains d.region k ≡ true → Origin m k)

@@ -6,18 +6,18 @@ use Rattle.std.proofs.lemmas.Nat.{mod_below}
 use Rattle.std.proofs.lemmas.Option.{none-some}
 use Rattle.std.proofs.lemmas.List.FromFn.{get_or-map-range_with_len, length-map-range_with_len}
 use Rattle.grid_types.specs.declared.shape.Shape.{Shape}
-use Rattle.grid_types.specs.declared.note.Cut.{Cut}
+use Rattle.grid_types.specs.declared.layout_change.Cut.{Cut}
 use Rattle.grid_types.proofs.Numbers.{both, first, second}
 use Rattle.grid_model.specs.Lists.{below, first_some, ranks_below}
 use Rattle.grid_model.specs.Scales.{scale_of}
-use Rattle.grid_model.specs.Layouts.{Box}
+use Rattle.grid_model.specs.Layouts.{BucketBox}
 use Rattle.grid_model.specs.Cuts.{cut, is_within, divides, candidates, candidates_in, existing_in, best_existing, rank, dividing_values, best_value, value_rank, may_grow, cycle, old_cut, new_cut, refinement, refinements}
 use Rattle.grid_model.specs.CutLaws.{IsCandidate, IsValue, IsBestOld, IsBestNew, CutsBest}
 use Rattle.grid_model.proofs.LeastLaws.{least-is-one, none-below-least, no-least}
 use Rattle.grid_model.proofs.Members.{contains-none, contains-filter, contains-from-filter, contains-map, contains-from-map, contains-flat, contains-from-flat, contains-range, contains-from-range, contains-among, among-from-contains}
 use Rattle.grid_model.proofs.Choosing.{or-else-some, or-else-none, map-some, map-none, FirstAt, first-there, none-there}
 
-module _ {K : ℕ} (scales : List (List ℕ)) (b : Box K) (keys : List (List ℕ)) where
+module _ {K : ℕ} (scales : List (List ℕ)) (b : BucketBox K) (keys : List (List ℕ)) where
   -- each candidate is listed
   pub candidate-listed : (a v : ℕ) → IsCandidate scales b keys a v → Contains (candidates scales b.region keys) (a, v)
   unfolding candidates
@@ -141,7 +141,7 @@ earlier at a place j i here fresh p = by (cases_lt i place)
     by (inl q) = q
     by (inr q) = absurd (fresh place (omega (arith, p, q)) here)
 
-module _ {K : ℕ} (shape : Shape) (scales : List (List ℕ)) (b : Box K) (keys : List (List ℕ)) where
+module _ {K : ℕ} (shape : Shape) (scales : List (List ℕ)) (b : BucketBox K) (keys : List (List ℕ)) where
   abbrev turn : ℕ → ℕ
   turn i = slice_index (cycle (length scales) b.turn) i
 
@@ -199,14 +199,14 @@ module _ {K : ℕ} (shape : Shape) (scales : List (List ℕ)) (b : Box K) (keys 
 pub cuts-best : (K : ℕ) → CutsBest K
 cuts-best K = record { old = old; new = new; none = λ shape scales b keys. (no-cut shape scales b keys, never shape scales b keys) }
   where
-    old : (shape : Shape) (scales : List (List ℕ)) (b : Box K) (keys : List (List ℕ)) (c : Cut) → cut shape scales b keys ≡ Some c → c.fresh ≡ false → IsBestOld scales b keys c
+    old : (shape : Shape) (scales : List (List ℕ)) (b : BucketBox K) (keys : List (List ℕ)) (c : Cut) → cut shape scales b keys ≡ Some c → c.fresh ≡ false → IsBestOld scales b keys c
     old shape scales b keys c e h = old-cut-best shape scales b keys c h (cut-comes shape scales b keys c e)
 
-    new : (shape : Shape) (scales : List (List ℕ)) (b : Box K) (keys : List (List ℕ)) (c : Cut) → cut shape scales b keys ≡ Some c → c.fresh ≡ true → IsBestNew shape scales b keys c
+    new : (shape : Shape) (scales : List (List ℕ)) (b : BucketBox K) (keys : List (List ℕ)) (c : Cut) → cut shape scales b keys ≡ Some c → c.fresh ≡ true → IsBestNew shape scales b keys c
     new shape scales b keys c e h = new-cut-best shape scales b keys c h (cut-comes shape scales b keys c e)
 
     -- a cut is at a candidate or at a value
-    never : (shape : Shape) (scales : List (List ℕ)) (b : Box K) (keys : List (List ℕ)) → ((a v : ℕ) → (IsCandidate scales b keys a v → ⊥) × (IsValue shape scales keys a v → ⊥)) → cut shape scales b keys ≡ None
+    never : (shape : Shape) (scales : List (List ℕ)) (b : BucketBox K) (keys : List (List ℕ)) → ((a v : ℕ) → (IsCandidate scales b keys a v → ⊥) × (IsValue shape scales keys a v → ⊥)) → cut shape scales b keys ≡ None
     never shape scales b keys h = by (cut shape scales b keys) refl
       where
         of-cut : (c : Cut) (t : Bool) → c.fresh ≡ t → cut shape scales b keys ≡ Some c → ⊥

@@ -4,7 +4,7 @@ use Rattle.std.proofs.lemmas.Bool.{lt-leb}
 use Rattle.std.proofs.lemmas.List.{length-map}
 use Rattle.std.proofs.lemmas.List.Filters.{length-filter_both}
 use lib.Pointwise.{pointwise}
-use Rattle.grid_types.specs.declared.note.Cut.{Cut}
+use Rattle.grid_types.specs.declared.layout_change.Cut.{Cut}
 use Rattle.grid_types.specs.declared.region.Region.{Region}
 use Rattle.grid_types.specs.declared.shape.Shape.{Shape}
 use Rattle.grid_types.specs.Regions.{contains, IsRegion}
@@ -12,7 +12,7 @@ use Rattle.grid_types.proofs.Numbers.{both, first, second, each-at-most, as-long
 use Rattle.grid_model.specs.Lists.{is_among}
 use Rattle.grid_model.specs.Scales.{scale_of}
 use Rattle.grid_model.specs.Tables.{Table, with_data}
-use Rattle.grid_model.specs.Layouts.{Box, inside}
+use Rattle.grid_model.specs.Layouts.{BucketBox, records_inside}
 use Rattle.grid_model.specs.Cuts.{cut, is_within, divides, left_part, right_part}
 use Rattle.grid_model.specs.Notes.{keys_with, left_of, right_of}
 use Rattle.grid_model.specs.CutLaws.{CutsBest}
@@ -47,7 +47,7 @@ module _ {K : ℕ} (t : Table) (k : List ℕ) (r : Region K) where
   passing p = ap (filter p) keys_are ∙ filter-both (contains r) p (keys_of (with_data t k []))
 
   -- a part of a region has as many records after a put as it has keys
-  part_length : (s : Region K) (p : List ℕ → Bool) (d : List ℕ) → ((x : List ℕ) → contains s x ≡ (contains r x && p x)) → length (inside (with_data t k d) s) ≡ length (filter p (keys_with t r k))
+  part_length : (s : Region K) (p : List ℕ → Bool) (d : List ℕ) → ((x : List ℕ) → contains s x ≡ (contains r x && p x)) → length (records_inside (with_data t k d) s) ≡ length (filter p (keys_with t r k))
   part_length s p d same =
       length-where (contains s) (with_data t k d)
       ∙ ap (λ ks. length (filter (contains s) ks)) (keys-put k d [] t)
@@ -58,8 +58,8 @@ module _ {K : ℕ} (t : Table) (k : List ℕ) (r : Region K) where
   one_passes p h = some_passes (λ x. contains r x && p x) (keys_of (with_data t k [])) (let same = ap length (passing p) in omega (arith, same, h))
 
   -- there is one key more than records, at most
-  few_keys : length (keys_with t r k) ≤ length (inside t r) + 1
-  few_keys = let same : length (keys_with t r k) ≡ length (inside (with_data t k []) r) = length-map (inside (with_data t k []) r) (λ e. e.0) in let most = count-put (contains r) k [] t in omega (arith, same, most)
+  few_keys : length (keys_with t r k) ≤ length (records_inside t r) + 1
+  few_keys = let same : length (keys_with t r k) ≡ length (records_inside (with_data t k []) r) = length-map (records_inside (with_data t k []) r) (λ e. e.0) in let most = count-put (contains r) k [] t in omega (arith, same, most)
 
   module _ (a v : ℕ) (divided : IsTrue (divides (keys_with t r k) a v)) where
     some_left : 0 < length (left_part (keys_with t r k) a v)
@@ -98,14 +98,14 @@ module _ {K : ℕ} (t : Table) (k : List ℕ) (r : Region K) where
             omega (arith, most, least)
 
 -- what a cut of a box is
-pub record Cuts {K : ℕ} (shape : Shape) (scales : List (List ℕ)) (b : Box K) (t : Table) (k : List ℕ) (c : Cut) : Type 0 where
+pub record Cuts {K : ℕ} (shape : Shape) (scales : List (List ℕ)) (b : BucketBox K) (t : Table) (k : List ℕ) (c : Cut) : Type 0 where
   pub attribute : c.attribute < K
   pub within : IsTrue (is_within b.region c.attribute c.value)
   pub scale : CutsScale shape scales c
-  pub left : (d : List ℕ) → length (inside (with_data t k d) (left_of b c).region) ≤ length (inside t b.region)
-  pub right : (d : List ℕ) → length (inside (with_data t k d) (right_of b c).region) ≤ length (inside t b.region)
+  pub left : (d : List ℕ) → length (records_inside (with_data t k d) (left_of b c).region) ≤ length (records_inside t b.region)
+  pub right : (d : List ℕ) → length (records_inside (with_data t k d) (right_of b c).region) ≤ length (records_inside t b.region)
 
-module _ {K : ℕ} (best : CutsBest K) (shape : Shape) (scales : List (List ℕ)) (b : Box K) (t : Table) (k : List ℕ) (c : Cut) (count : length scales ≡ K) (region : IsRegion K b.region)
+module _ {K : ℕ} (best : CutsBest K) (shape : Shape) (scales : List (List ℕ)) (b : BucketBox K) (t : Table) (k : List ℕ) (c : Cut) (count : length scales ≡ K) (region : IsRegion K b.region)
     (is : cut shape scales b (keys_with t b.region k) ≡ Some c) where
   in_range : c.attribute < K
   in_range = by c.fresh refl
@@ -158,5 +158,5 @@ module _ {K : ℕ} (best : CutsBest K) (shape : Shape) (scales : List (List ℕ)
       total : length (left_part (keys_with t b.region k) c.attribute c.value) + length (right_part (keys_with t b.region k) c.attribute c.value) ≡ length (keys_with t b.region k)
       total = all_keys t k b.region c.attribute c.value divided
 
-      few : length (keys_with t b.region k) ≤ length (inside t b.region) + 1
+      few : length (keys_with t b.region k) ≤ length (records_inside t b.region) + 1
       few = few_keys t k b.region

@@ -1,11 +1,11 @@
 -- A cut parts a region: the left part has its keys below the boundary, the right part the others.
 use Rattle.std.proofs.Common.{◌≡◌, ◌<◌, ◌≤◌, ◌-◌, ℕ, zero, suc, Bool, true, false, ◌&&◌, List, [], ◌∷◌, length, slice_index, slice_set, nat_lt, nat_le, refl, sym, ap, ◌∙◌, arith, IsTrue, leb-true, le-leb, ltb-true, lt-ltb}
 use lib.Pointwise.{pointwise}
-use Rattle.grid_types.specs.declared.note.Cut.{Cut}
+use Rattle.grid_types.specs.declared.layout_change.Cut.{Cut}
 use Rattle.grid_types.specs.declared.region.Region.{Region}
 use Rattle.grid_types.specs.Regions.{contains, IsRegion}
 use Rattle.grid_types.proofs.Numbers.{both, first, second}
-use Rattle.grid_model.specs.Layouts.{Box}
+use Rattle.grid_model.specs.Layouts.{BucketBox}
 use Rattle.grid_model.specs.Cuts.{is_within}
 use Rattle.grid_model.specs.Notes.{left_of, right_of}
 use Rattle.grid_model.specs.LayoutLaws.{PartsRegion}
@@ -68,7 +68,7 @@ pub up-to-high : {K : ℕ} (r : Region K) (a v : ℕ) → IsTrue (is_within r a 
 up-to-high r a v w = leb-true v (slice_index r.hi a) (second (nat_lt (slice_index r.lo a) v) (nat_le v (slice_index r.hi a)) w)
 
 -- the left part has the keys of the box below the boundary
-pub left-contains : {K : ℕ} (b : Box K) (c : Cut) (k : List ℕ) → IsRegion K b.region → c.attribute < K → IsTrue (is_within b.region c.attribute c.value)
+pub left-contains : {K : ℕ} (b : BucketBox K) (c : Cut) (k : List ℕ) → IsRegion K b.region → c.attribute < K → IsTrue (is_within b.region c.attribute c.value)
     → contains (left_of b c).region k ≡ (contains b.region k && nat_lt (slice_index k c.attribute) c.value)
 left-contains b c k r i w =
     let lo : slice_index b.region.lo c.attribute < c.value = above-low b.region c.attribute c.value w in
@@ -76,7 +76,7 @@ left-contains b c k r i w =
     ∙ and_assoc (pointwise nat_le b.region.lo k) (pointwise nat_le k b.region.hi) (nat_lt (slice_index k c.attribute) c.value)
 
 -- the right part has the others
-pub right-contains : {K : ℕ} (b : Box K) (c : Cut) (k : List ℕ) → IsRegion K b.region → c.attribute < K → IsTrue (is_within b.region c.attribute c.value)
+pub right-contains : {K : ℕ} (b : BucketBox K) (c : Cut) (k : List ℕ) → IsRegion K b.region → c.attribute < K → IsTrue (is_within b.region c.attribute c.value)
     → contains (right_of b c).region k ≡ (contains b.region k && nat_le c.value (slice_index k c.attribute))
 right-contains b c k r i w =
     let count : length b.region.lo ≡ _ = r.low.count in

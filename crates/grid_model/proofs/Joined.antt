@@ -1,22 +1,22 @@
--- The boxes after a merge.
+-- The boxes after_note a merge.
 use Rattle.std.proofs.Common.{◌≡◌, ◌≢◌, ℕ, Bool, cond, not, List, min, max, ◌==◌, Some, None, refl, sym, ap, ◌∙◌, arith, nat_cmp, eq-eqb}
 use Rattle.std.proofs.lemmas.Bool.{ne_eqb}
 use Rattle.std.specs.Cmp.{nat_cmp_total, unsigned_tied}
 use Rattle.std.specs.FinMap.{nat_cmp-IsAntisymmetric}
 use Rattle.std.specs.FinMap.Entries.{find-put, find-where_key, where_key}
 use Rattle.std.specs.Option.{option_map_or, unwrap_or}
-use Rattle.grid_types.specs.declared.note.NoteOf.TheVariants as note
-use Rattle.grid_model.specs.Layouts.{Box, Layout, box, holder}
-use Rattle.grid_model.specs.Notes.{together, joined, after, after_at}
+use Rattle.grid_types.specs.declared.layout_change.LayoutChange.TheVariants as note
+use Rattle.grid_model.specs.Layouts.{BucketBox, Layout, box, holder}
+use Rattle.grid_model.specs.Notes.{together, joined, after_note, after_note_at}
 use Rattle.grid_model.specs.LayoutLaws.{IsMerge}
 use Rattle.grid_model.proofs.Boxes.{one-value}
 
--- the layout after a merge with a box that is there
-pub after-merge : {K : ℕ} (L : Layout K) (k : List ℕ) (n : ℕ) (b : Box K) (m : ℕ) (c : Box K) → holder L k ≡ Some (n, b) → box L m ≡ Some c → after L k (note.Merge m) ≡ joined L n b m c
-unfolding after
-after-merge L k n b m c holds there = ap (λ o. option_map_or (λ e. after_at L e (note.Merge m)) o L) holds ∙ ap (λ o. joined L n b m (unwrap_or o b)) there
+-- the layout after_note a merge with a box that is there
+pub after-merge : {K : ℕ} (L : Layout K) (k : List ℕ) (n : ℕ) (b : BucketBox K) (m : ℕ) (c : BucketBox K) → holder L k ≡ Some (n, b) → box L m ≡ Some c → after_note L k (note.Merge m) ≡ joined L n b m c
+unfolding after_note
+after-merge L k n b m c holds there = ap (λ o. option_map_or (λ e. after_note_at L e (note.Merge m)) o L) holds ∙ ap (λ o. joined L n b m (unwrap_or o b)) there
 
-module _ {K : ℕ} (L : Layout K) (n : ℕ) (b : Box K) (m : ℕ) (c : Box K) where
+module _ {K : ℕ} (L : Layout K) (n : ℕ) (b : BucketBox K) (m : ℕ) (c : BucketBox K) where
   box-joined : (i : ℕ) → box (joined L n b m c) i ≡ cond (i == min n m) (Some (together b c)) (cond (not (i == max n m)) (box L i) None)
   unfolding joined
   box-joined i =
@@ -45,7 +45,7 @@ module _ {K : ℕ} (L : Layout K) (n : ℕ) (b : Box K) (m : ℕ) (c : Box K) wh
   pub is-merge : n ≢ m → IsMerge L n b m c (joined L n b m c)
   is-merge differ = record {
     survivor = survivor;
-    turn = λ d e. ap (λ (x : Box K). x.turn) (one-value d (together b c) (sym e ∙ survivor));
+    turn = λ d e. ap (λ (x : BucketBox K). x.turn) (one-value d (together b c) (sym e ∙ survivor));
     gone = gone differ;
     others = other;
     scales = scales-kept;

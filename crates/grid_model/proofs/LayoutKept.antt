@@ -5,16 +5,16 @@ use Rattle.std.specs.Cmp.Lexicographic.{nat_list_cmp_total}
 use Rattle.std.specs.FinMap.{slice_cmp-IsAntisymmetric, nat_cmp-IsAntisymmetric}
 use Rattle.std.specs.FinMap.Entries.{find-put, find-where_key}
 use Rattle.grid_types.specs.declared.key.Key.{Key}
-use Rattle.grid_types.specs.declared.note.Cut.{Cut}
-use Rattle.grid_types.specs.declared.note.NoteOf.{NoteOf}
-use Rattle.grid_types.specs.declared.note.NoteOf.TheVariants as note
+use Rattle.grid_types.specs.declared.layout_change.Cut.{Cut}
+use Rattle.grid_types.specs.declared.layout_change.LayoutChange.{LayoutChange}
+use Rattle.grid_types.specs.declared.layout_change.LayoutChange.TheVariants as note
 use Rattle.grid_types.specs.declared.shape.Shape.{Shape}
 use Rattle.grid_types.specs.declared.update.Record.{Record}
 use Rattle.grid_types.specs.declared.update.Update.TheVariants.{Put, Remove}
 use Rattle.grid_types.specs.Keys.{key_cmp, IsKey}
 use Rattle.grid_types.specs.Regions.{contains}
 use Rattle.grid_model.specs.Tables.{Table, IsTable, get, with_data, effect}
-use Rattle.grid_model.specs.Layouts.{Box, Layout, box, holder, inside, EachBox}
+use Rattle.grid_model.specs.Layouts.{BucketBox, Layout, box, holder, records_inside, EachBox}
 use Rattle.grid_model.specs.Cuts.{cut}
 use Rattle.grid_model.specs.Notes.{put_note, put_note_at, cut_note, keys_with}
 use Rattle.grid_model.specs.LayoutLaws.{HasKeys, StandsOver}
@@ -27,28 +27,28 @@ one_key : (k q : List ℕ) → eq_by_cmp key_cmp k q ≡ true → k ≡ q
 one_key k q e = slice_cmp-IsAntisymmetric nat_cmp-IsAntisymmetric k q (equal_order (key_cmp k q) e)
 
 -- a put of a key keeps a table's keys lawful
-pub keys-after-put : {K : ℕ} (t : Table) (r : Record K) → IsKey K r.key.at → HasKeys K t → HasKeys K (effect t (Put r))
+pub keys-after-put : {K : ℕ} (t : Table) (r : Record K) → IsKey K r.key.numbers → HasKeys K t → HasKeys K (effect t (Put r))
 unfolding effect
-keys-after-put {K} t r key keys q d e = by (eq_by_cmp key_cmp q r.key.at) refl
+keys-after-put {K} t r key keys q d e = by (eq_by_cmp key_cmp q r.key.numbers) refl
   where
-    by : (b : Bool) → eq_by_cmp key_cmp q r.key.at ≡ b → IsKey K q
-    by true same = subst (IsKey K) (sym (one_key q r.key.at same)) key
-    by false differ = keys q d (ap (λ b. cond b (Some r.value) (get t q)) (sym differ) ∙ sym (find-put key_cmp nat_list_cmp_total q r.key.at r.value t) ∙ e)
+    by : (b : Bool) → eq_by_cmp key_cmp q r.key.numbers ≡ b → IsKey K q
+    by true same = subst (IsKey K) (sym (one_key q r.key.numbers same)) key
+    by false differ = keys q d (ap (λ b. cond b (Some r.value) (get t q)) (sym differ) ∙ sym (find-put key_cmp nat_list_cmp_total q r.key.numbers r.value t) ∙ e)
 
 -- and so does a removal
 pub keys-after-removal : {K : ℕ} (t : Table) (k : Key K) → HasKeys K t → HasKeys K (effect t (Remove k))
 unfolding effect
-keys-after-removal {K} t k keys q d e = by (eq_by_cmp key_cmp k.at q) refl
+keys-after-removal {K} t k keys q d e = by (eq_by_cmp key_cmp k.numbers q) refl
   where
-    is : cond (not (eq_by_cmp key_cmp k.at q)) (get t q) None ≡ Some d
-    is = sym (find-where_key key_cmp (λ x. not (eq_by_cmp key_cmp k.at x)) q (alike (λ x. not (eq_by_cmp key_cmp k.at x)) q) t) ∙ e
+    is : cond (not (eq_by_cmp key_cmp k.numbers q)) (get t q) None ≡ Some d
+    is = sym (find-where_key key_cmp (λ x. not (eq_by_cmp key_cmp k.numbers x)) q (alike (λ x. not (eq_by_cmp key_cmp k.numbers x)) q) t) ∙ e
 
-    by : (b : Bool) → eq_by_cmp key_cmp k.at q ≡ b → IsKey K q
+    by : (b : Bool) → eq_by_cmp key_cmp k.numbers q ≡ b → IsKey K q
     by true same = absurd (some-not-none d (sym is ∙ ap (λ b. cond (not b) (get t q) None) same))
     by false differ = keys q d (ap (λ b. cond (not b) (get t q) None) (sym differ) ∙ is)
 
 -- a layout stands over another table, where the boxes have room for its records
-pub kept-layout : {K : ℕ} (shape : Shape) (L : Layout K) (t s : Table) → StandsOver shape L t → IsTable s → HasKeys K s → EachBox L (λ n b. length (inside s b.region) ≤ shape.capacity) → StandsOver shape L s
+pub kept-layout : {K : ℕ} (shape : Shape) (L : Layout K) (t s : Table) → StandsOver shape L t → IsTable s → HasKeys K s → EachBox L (λ n b. length (records_inside s b.region) ≤ shape.capacity) → StandsOver shape L s
 kept-layout shape L t s h table keys room = record {
   lawful = h.lawful;
   attributes = h.attributes;
@@ -74,46 +74,46 @@ kept-layout shape L t s h table keys room = record {
 pub remove-plain : {K : ℕ} (shape : Shape) (L : Layout K) (t : Table) (k : Key K) → StandsOver shape L t → StandsOver shape L (effect t (Remove k))
 unfolding effect
 remove-plain shape L t k h = kept-layout shape L t (effect t (Remove k)) h (effect-table t (Remove k) h.table) (keys-after-removal t k h.keys) (λ n b there.
-    let least = count-without (contains b.region) k.at t in
+    let least = count-without (contains b.region) k.numbers t in
     let room = h.sound.room n b there in
     omega (arith, least, room))
 
 -- the box of a put: the one that has the key
-pub record PutBox {K : ℕ} (shape : Shape) (L : Layout K) (t : Table) (k : List ℕ) (note : NoteOf) : Type 0 where
+pub record PutBox {K : ℕ} (shape : Shape) (L : Layout K) (t : Table) (k : List ℕ) (note : LayoutChange) : Type 0 where
   pub number : ℕ
-  pub here : Box K
+  pub here : BucketBox K
   pub held : holder L k ≡ Some (number, here)
   pub there : box L number ≡ Some here
   pub has : contains here.region k ≡ true
   pub noted : put_note_at shape L t k here ≡ Some note
 
 -- a put with a note has a box
-pub put-box : {K : ℕ} (shape : Shape) (L : Layout K) (t : Table) (k : List ℕ) (n : NoteOf) → StandsOver shape L t → put_note shape L t k ≡ Some n → PutBox shape L t k n
+pub put-box : {K : ℕ} (shape : Shape) (L : Layout K) (t : Table) (k : List ℕ) (n : LayoutChange) → StandsOver shape L t → put_note shape L t k ≡ Some n → PutBox shape L t k n
 unfolding put_note
 put-box {K} shape L t k n h e = by (holder L k) refl e
   where
-    by : (o : Option (ℕ × Box K)) → holder L k ≡ o → option_and_then (λ x. put_note_at shape L t k x.1) o ≡ Some n → PutBox shape L t k n
+    by : (o : Option (ℕ × BucketBox K)) → holder L k ≡ o → option_and_then (λ x. put_note_at shape L t k x.1) o ≡ Some n → PutBox shape L t k n
     by None held e = absurd (some-not-none n (sym e))
     by (Some x) held e = let box-is = holder-box k L x h.sound.numbered held in record { number = x.0; here = x.1; held = held; there = box-is.0; has = box-is.1; noted = e }
 
 -- what a put's note says: none of it is cut where the key is there or the box has room, else it is the cut's
-pub data Noted {K : ℕ} (shape : Shape) (L : Layout K) (t : Table) (k : List ℕ) (b : Box K) (n : NoteOf) : Type 0 where
-  There : n ≡ note.Plain → is_some (get t k) ≡ true → Noted shape L t k b n
-  HasRoom : n ≡ note.Plain → length (inside t b.region) < shape.capacity → Noted shape L t k b n
-  IsCut : (c : Cut) → n ≡ cut_note L c → cut shape L.scales b (keys_with t b.region k) ≡ Some c → Noted shape L t k b n
+pub data LoggedUpdate {K : ℕ} (shape : Shape) (L : Layout K) (t : Table) (k : List ℕ) (b : BucketBox K) (n : LayoutChange) : Type 0 where
+  There : n ≡ note.Plain → is_some (get t k) ≡ true → LoggedUpdate shape L t k b n
+  HasRoom : n ≡ note.Plain → length (records_inside t b.region) < shape.capacity → LoggedUpdate shape L t k b n
+  IsCut : (c : Cut) → n ≡ cut_note L c → cut shape L.scales b (keys_with t b.region k) ≡ Some c → LoggedUpdate shape L t k b n
 
 -- a note says one of these
-pub noted : {K : ℕ} (shape : Shape) (L : Layout K) (t : Table) (k : List ℕ) (b : Box K) (n : NoteOf) → put_note_at shape L t k b ≡ Some n → Noted shape L t k b n
-noted {K} shape L t k b n e = by (is_some (get t k)) (nat_lt (length (inside t b.region)) shape.capacity) refl refl e
+pub noted : {K : ℕ} (shape : Shape) (L : Layout K) (t : Table) (k : List ℕ) (b : BucketBox K) (n : LayoutChange) → put_note_at shape L t k b ≡ Some n → LoggedUpdate shape L t k b n
+noted {K} shape L t k b n e = by (is_some (get t k)) (nat_lt (length (records_inside t b.region)) shape.capacity) refl refl e
   where
-    of_cut : (o : Option Cut) → cut shape L.scales b (keys_with t b.region k) ≡ o → option_map (cut_note L) o ≡ Some n → Noted shape L t k b n
+    of_cut : (o : Option Cut) → cut shape L.scales b (keys_with t b.region k) ≡ o → option_map (cut_note L) o ≡ Some n → LoggedUpdate shape L t k b n
     of_cut None is e = absurd (some-not-none n (sym e))
     of_cut (Some c) is e = IsCut c (sym (one-value (cut_note L c) n e)) is
 
-    by : (there room : Bool) → is_some (get t k) ≡ there → nat_lt (length (inside t b.region)) shape.capacity ≡ room
-        → cond (there || room) (Some note.Plain) (option_map (cut_note L) (cut shape L.scales b (keys_with t b.region k))) ≡ Some n → Noted shape L t k b n
+    by : (there room : Bool) → is_some (get t k) ≡ there → nat_lt (length (records_inside t b.region)) shape.capacity ≡ room
+        → cond (there || room) (Some note.Plain) (option_map (cut_note L) (cut shape L.scales b (keys_with t b.region k))) ≡ Some n → LoggedUpdate shape L t k b n
     by true room p q e = There (sym (one-value note.Plain n e)) p
-    by false true p q e = HasRoom (sym (one-value note.Plain n e)) (ltb-true (length (inside t b.region)) shape.capacity q)
+    by false true p q e = HasRoom (sym (one-value note.Plain n e)) (ltb-true (length (records_inside t b.region)) shape.capacity q)
     by false false p q e = of_cut (cut shape L.scales b (keys_with t b.region k)) refl e
 
 -- a put never merges
@@ -121,39 +121,39 @@ pub put-never-merges : {K : ℕ} (shape : Shape) (L : Layout K) (t : Table) (k :
 unfolding put_note
 put-never-merges {K} shape L t k m e = by (holder L k) e
   where
-    no : (b : Box K) → Noted shape L t k b (note.Merge m) → ⊥
+    no : (b : BucketBox K) → LoggedUpdate shape L t k b (note.Merge m) → ⊥
     no b (There e p) = cc
     no b (HasRoom e p) = cc
     no b (IsCut c e p) = cc
 
-    by : (o : Option (ℕ × Box K)) → option_and_then (λ x. put_note_at shape L t k x.1) o ≡ Some (note.Merge m) → ⊥
+    by : (o : Option (ℕ × BucketBox K)) → option_and_then (λ x. put_note_at shape L t k x.1) o ≡ Some (note.Merge m) → ⊥
     by None e = some-not-none (note.Merge m) (sym e)
     by (Some x) e = no x.1 (noted shape L t k x.1 (note.Merge m) e)
 
 -- a put without a cut leaves the layout
-pub put-plain : {K : ℕ} (shape : Shape) (L : Layout K) (t : Table) (r : Record K) → StandsOver shape L t → IsKey K r.key.at → put_note shape L t r.key.at ≡ Some note.Plain → StandsOver shape L (effect t (Put r))
+pub put-plain : {K : ℕ} (shape : Shape) (L : Layout K) (t : Table) (r : Record K) → StandsOver shape L t → IsKey K r.key.numbers → put_note shape L t r.key.numbers ≡ Some note.Plain → StandsOver shape L (effect t (Put r))
 unfolding effect
-put-plain {K} shape L t r h key e = kept-layout shape L t (effect t (Put r)) h (effect-table t (Put r) h.table) (keys-after-put t r key h.keys) (λ n b there. room n b there (noted shape L t r.key.at p.here note.Plain p.noted))
+put-plain {K} shape L t r h key e = kept-layout shape L t (effect t (Put r)) h (effect-table t (Put r) h.table) (keys-after-put t r key h.keys) (λ n b there. room n b there (noted shape L t r.key.numbers p.here note.Plain p.noted))
   where
-    p : PutBox shape L t r.key.at note.Plain
-    p = put-box shape L t r.key.at note.Plain h e
+    p : PutBox shape L t r.key.numbers note.Plain
+    p = put-box shape L t r.key.numbers note.Plain h e
 
-    has_room : (n : ℕ) (b : Box K) → box L n ≡ Some b → length (inside t p.here.region) < shape.capacity → (c : Bool) → contains b.region r.key.at ≡ c → length (inside (with_data t r.key.at r.value) b.region) ≤ shape.capacity
+    has_room : (n : ℕ) (b : BucketBox K) → box L n ≡ Some b → length (records_inside t p.here.region) < shape.capacity → (c : Bool) → contains b.region r.key.numbers ≡ c → length (records_inside (with_data t r.key.numbers r.value) b.region) ≤ shape.capacity
     has_room n b there some true has =
-        let number : n ≡ p.number = h.sound.apart r.key.at n p.number b p.here there p.there has p.has in
+        let number : n ≡ p.number = h.sound.apart r.key.numbers n p.number b p.here there p.there has p.has in
         let same : b ≡ p.here = one-value b p.here (sym there ∙ ap (box L) number ∙ p.there) in
-        let most = count-put (contains b.region) r.key.at r.value t in
-        let as_many : length (inside t b.region) ≡ length (inside t p.here.region) = ap (λ (d : Box K). length (inside t d.region)) same in
+        let most = count-put (contains b.region) r.key.numbers r.value t in
+        let as_many : length (records_inside t b.region) ≡ length (records_inside t p.here.region) = ap (λ (d : BucketBox K). length (records_inside t d.region)) same in
         omega (arith, most, as_many, some)
     has_room n b there some false out =
-        let same = count-put-outside (contains b.region) r.key.at r.value t out in
+        let same = count-put-outside (contains b.region) r.key.numbers r.value t out in
         let room = h.sound.room n b there in
         omega (arith, same, room)
 
-    room : (n : ℕ) (b : Box K) → box L n ≡ Some b → Noted shape L t r.key.at p.here note.Plain → length (inside (with_data t r.key.at r.value) b.region) ≤ shape.capacity
+    room : (n : ℕ) (b : BucketBox K) → box L n ≡ Some b → LoggedUpdate shape L t r.key.numbers p.here note.Plain → length (records_inside (with_data t r.key.numbers r.value) b.region) ≤ shape.capacity
     room n b there (There e is) =
-        let same = count-put-there (contains b.region) r.key.at r.value t h.table is in
+        let same = count-put-there (contains b.region) r.key.numbers r.value t h.table is in
         let room = h.sound.room n b there in
         omega (arith, same, room)
-    room n b there (HasRoom e some) = has_room n b there some (contains b.region r.key.at) refl
+    room n b there (HasRoom e some) = has_room n b there some (contains b.region r.key.numbers) refl
     room n b there (IsCut c e is) = absurd (cc)

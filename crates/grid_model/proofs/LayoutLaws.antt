@@ -4,9 +4,9 @@ use Rattle.std.proofs.lemmas.List.{length-set, length-map, get_or-map, get_or-se
 use Rattle.std.specs.Ordering.{eq_by_cmp}
 use Rattle.std.specs.Option.{option_map_or}
 use Rattle.grid_types.specs.declared.key.Key.{Key}
-use Rattle.grid_types.specs.declared.note.Cut.{Cut}
-use Rattle.grid_types.specs.declared.note.NoteOf.{NoteOf}
-use Rattle.grid_types.specs.declared.note.NoteOf.TheVariants as note
+use Rattle.grid_types.specs.declared.layout_change.Cut.{Cut}
+use Rattle.grid_types.specs.declared.layout_change.LayoutChange.{LayoutChange}
+use Rattle.grid_types.specs.declared.layout_change.LayoutChange.TheVariants as note
 use Rattle.grid_types.specs.declared.shape.Shape.{Shape}
 use Rattle.grid_types.specs.declared.update.Record.{Record}
 use Rattle.grid_types.specs.declared.update.Update.{Update}
@@ -15,9 +15,9 @@ use Rattle.grid_types.specs.Keys.{IsKey}
 use Rattle.grid_types.specs.Regions.{contains, IsRegion}
 use Rattle.grid_model.specs.Tables.{Table, with_data, without, effect}
 use Rattle.grid_model.specs.Scales.{scale_of, is_drawn}
-use Rattle.grid_model.specs.Layouts.{Box, Layout, box, holder, inside, unused, IsDrawn}
+use Rattle.grid_model.specs.Layouts.{BucketBox, Layout, box, holder, records_inside, unused, IsDrawn}
 use Rattle.grid_model.specs.Cuts.{cut}
-use Rattle.grid_model.specs.Notes.{key_of, put_note, merges, merges_at, left_of, right_of, next_turn, scales_after, cut_note, keys_with, after, after_at, split, IsLawful}
+use Rattle.grid_model.specs.Notes.{updated_key, put_note, merges, merges_at, left_of, right_of, next_turn, scales_after, cut_note, keys_with, after_note, after_note_at, split, IsLawfulNote}
 use Rattle.grid_model.specs.Neighbours.{partners}
 use Rattle.grid_model.specs.ScaleLaws.{PartsNumbers}
 use Rattle.grid_model.specs.CutLaws.{CutsBest}
@@ -30,19 +30,19 @@ use Rattle.grid_model.proofs.CutRegions.{above-low, up-to-high}
 use Rattle.grid_model.proofs.CutScales.{AreScales, AreAfter, cut-scales, drawn-below, drawn-above}
 use Rattle.grid_model.proofs.CutBoxes.{each-part, split-numbered, length-split, split-covers, split-apart}
 use Rattle.grid_model.proofs.CutParts.{Cuts, cuts}
-use Rattle.grid_model.proofs.LayoutKept.{keys-after-put, remove-plain, put-plain, put-never-merges, PutBox, put-box, Noted, There, HasRoom, IsCut, noted}
+use Rattle.grid_model.proofs.LayoutKept.{keys-after-put, remove-plain, put-plain, put-never-merges, PutBox, put-box, LoggedUpdate, There, HasRoom, IsCut, noted}
 use Rattle.grid_model.proofs.NewLayout.{new-stands}
 
 -- what a list of numbers with one other number has at a place
 set_each : (P : ℕ → ℕ → Type 0) (xs : List ℕ) (a v i : ℕ) → a < length xs → P a v → P i (slice_index xs i) → P i (slice_index (slice_set xs a v) i)
-set_each P xs a v i inside here there = by (eq_by_cmp nat_cmp i a) refl
+set_each P xs a v i records_inside here there = by (eq_by_cmp nat_cmp i a) refl
   where
     by : (b : Bool) → eq_by_cmp nat_cmp i a ≡ b → P i (slice_index (slice_set xs a v) i)
-    by true e = subst (λ j. P j (slice_index (slice_set xs a v) j)) (sym (one-number i a e)) (subst (P a) (sym (get_or-set_same xs a v 0 inside)) here)
+    by true e = subst (λ j. P j (slice_index (slice_set xs a v) j)) (sym (one-number i a e)) (subst (P a) (sym (get_or-set_same xs a v 0 records_inside)) here)
     by false e = subst (P i) (sym (get_or-set_other xs a i v 0 (two-numbers i a e))) there
 
-module _ {K : ℕ} (numbers : PartsNumbers) (shape : Shape) (L : Layout K) (t : Table) (r : Record K) (n : ℕ) (b : Box K) (c : Cut) (h : StandsOver shape L t) (key : IsKey K r.key.at) (there : box L n ≡ Some b)
-    (has : contains b.region r.key.at ≡ true) (is : Cuts shape L.scales b t r.key.at c) where
+module _ {K : ℕ} (numbers : PartsNumbers) (shape : Shape) (L : Layout K) (t : Table) (r : Record K) (n : ℕ) (b : BucketBox K) (c : Cut) (h : StandsOver shape L t) (key : IsKey K r.key.numbers) (there : box L n ≡ Some b)
+    (has : contains b.region r.key.numbers ≡ true) (is : Cuts shape L.scales b t r.key.numbers c) where
   scales : AreScales K shape L.scales
   scales = record { attributes = h.sound.attributes; ascend = h.sound.scales; few_boundaries = h.sound.few_boundaries; few_cells = h.sound.few_cells }
 
@@ -62,10 +62,10 @@ module _ {K : ℕ} (numbers : PartsNumbers) (shape : Shape) (L : Layout K) (t : 
   last = region.high.in_range c.attribute
 
   in_low : c.attribute < length b.region.lo
-  in_low = let count : length b.region.lo ≡ K = region.low.count in let inside = is.attribute in omega (arith, count, inside)
+  in_low = let count : length b.region.lo ≡ K = region.low.count in let records_inside = is.attribute in omega (arith, count, records_inside)
 
   in_high : c.attribute < length b.region.hi
-  in_high = let count : length b.region.hi ≡ K = region.high.count in let inside = is.attribute in omega (arith, count, inside)
+  in_high = let count : length b.region.hi ≡ K = region.high.count in let records_inside = is.attribute in omega (arith, count, records_inside)
 
   left_region : IsRegion K (left_of b c).region
   left_region = record {
@@ -87,8 +87,8 @@ module _ {K : ℕ} (numbers : PartsNumbers) (shape : Shape) (L : Layout K) (t : 
     not_empty = λ a i. set_each (λ j x. x ≤ slice_index b.region.hi j) b.region.lo c.attribute c.value a in_low most (region.not_empty a i);
   }
 
-  -- a box that was drawn is drawn on the scales after the cut
-  still_drawn : (m : ℕ) (d : Box K) → box L m ≡ Some d → IsDrawn (scales_after L.scales c) d
+  -- a box that was drawn is drawn on the scales after_note the cut
+  still_drawn : (m : ℕ) (d : BucketBox K) → box L m ≡ Some d → IsDrawn (scales_after L.scales c) d
   still_drawn m d at a i = after_cut.drawn a (slice_index d.region.lo a) (slice_index d.region.hi a) i (h.sound.drawn m d at a i)
 
   left_drawn : IsDrawn (scales_after L.scales c) (left_of b c)
@@ -102,21 +102,21 @@ module _ {K : ℕ} (numbers : PartsNumbers) (shape : Shape) (L : Layout K) (t : 
       (still_drawn n b there a i)
 
   turn : next_turn K c < K
-  turn = let inside = is.attribute in omega (arith, inside)
+  turn = let records_inside = is.attribute in omega (arith, records_inside)
 
   none : box L (unused L) ≡ None
   none = least-unused.none L
 
-  room : length (inside t b.region) ≤ shape.capacity
+  room : length (records_inside t b.region) ≤ shape.capacity
   room = h.sound.room n b there
 
   -- a box without the key has as many records as before
-  other_room : (m : ℕ) (d : Box K) → box L m ≡ Some d → m ≢ n → length (inside (with_data t r.key.at r.value) d.region) ≤ shape.capacity
-  other_room m d at differ = by (contains d.region r.key.at) refl
+  other_room : (m : ℕ) (d : BucketBox K) → box L m ≡ Some d → m ≢ n → length (records_inside (with_data t r.key.numbers r.value) d.region) ≤ shape.capacity
+  other_room m d at differ = by (contains d.region r.key.numbers) refl
     where
-      by : (s : Bool) → contains d.region r.key.at ≡ s → length (inside (with_data t r.key.at r.value) d.region) ≤ shape.capacity
-      by true e = absurd (differ (h.sound.apart r.key.at m n d b at there e has))
-      by false e = let same = count-put-outside (contains d.region) r.key.at r.value t e in let old = h.sound.room m d at in omega (arith, same, old)
+      by : (s : Bool) → contains d.region r.key.numbers ≡ s → length (records_inside (with_data t r.key.numbers r.value) d.region) ≤ shape.capacity
+      by true e = absurd (differ (h.sound.apart r.key.numbers m n d b at there e has))
+      by false e = let same = count-put-outside (contains d.region) r.key.numbers r.value t e in let old = h.sound.room m d at in omega (arith, same, old)
 
   -- the new number is below the number of pages
   unused_below : Fits shape (split L n b c (unused L)) → unused L < shape.pages
@@ -125,7 +125,7 @@ module _ {K : ℕ} (numbers : PartsNumbers) (shape : Shape) (L : Layout K) (t : 
       let one_more : length (split L n b c (unused L)).boxes ≡ length L.boxes + 1 = length-split L n b c (unused L) there none h.sound.numbered in
       omega (arith, few, one_more, fits)
 
-  -- a layout with a box cut stands over the table after the put
+  -- a layout with a box cut stands over the table after_note the put
   split-stands : Fits shape (split L n b c (unused L)) → StandsOver shape (split L n b c (unused L)) (effect t (Put r))
   unfolding split effect
   split-stands fits = record {
@@ -144,45 +144,45 @@ module _ {K : ℕ} (numbers : PartsNumbers) (shape : Shape) (L : Layout K) (t : 
       drawn = each-part L n b c (unused L) there none (λ _ d. IsDrawn (scales_after L.scales c) d) left_drawn right_drawn (λ m d at _. still_drawn m d at);
       covers = λ k k_is. split-covers L n b c (unused L) there none region is.attribute is.within k h.sound.numbered (h.sound.covers k k_is);
       apart = split-apart L n b c (unused L) there none region is.attribute is.within h.sound.apart;
-      room = each-part L n b c (unused L) there none (λ _ d. length (inside (with_data t r.key.at r.value) d.region) ≤ shape.capacity)
+      room = each-part L n b c (unused L) there none (λ _ d. length (records_inside (with_data t r.key.numbers r.value) d.region) ≤ shape.capacity)
           (let fewer = is.left r.value in omega (arith, fewer, room)) (let fewer = is.right r.value in omega (arith, fewer, room)) other_room;
       below_pages = each-part L n b c (unused L) there none (λ m _. m < shape.pages) (h.sound.below_pages n b there) (unused_below fits) (λ m d at _. h.sound.below_pages m d at);
     };
   }
 
--- a layout after a note is the one that the box of the key gives
-after-held : {K : ℕ} (L : Layout K) (k : List ℕ) (n : NoteOf) (e : ℕ × Box K) → holder L k ≡ Some e → after L k n ≡ after_at L e n
-unfolding after
-after-held L k n e held = ap (λ o. option_map_or (λ x. after_at L x n) o L) held
+-- a layout after_note a note is the one that the box of the key gives
+after-held : {K : ℕ} (L : Layout K) (k : List ℕ) (n : LayoutChange) (e : ℕ × BucketBox K) → holder L k ≡ Some e → after_note L k n ≡ after_note_at L e n
+unfolding after_note
+after-held L k n e held = ap (λ o. option_map_or (λ x. after_note_at L x n) o L) held
 
 -- without a cut or a merge it is the layout as it was
-after-plain : {K : ℕ} (L : Layout K) (k : List ℕ) → after L k note.Plain ≡ L
-unfolding after
+after-plain : {K : ℕ} (L : Layout K) (k : List ℕ) → after_note L k note.Plain ≡ L
+unfolding after_note
 after-plain {K} L k = by (holder L k)
   where
-    by : (o : Option (ℕ × Box K)) → option_map_or (λ e. after_at L e note.Plain) o L ≡ L
+    by : (o : Option (ℕ × BucketBox K)) → option_map_or (λ e. after_note_at L e note.Plain) o L ≡ L
     by None = refl
     by (Some e) = refl
 
 -- a put with a cut keeps a layout sound
-pub put-cut : {K : ℕ} → PartsNumbers → CutsBest K → (shape : Shape) (L : Layout K) (t : Table) (r : Record K) (c : Cut) (right : ℕ) → StandsOver shape L t → IsKey K r.key.at
-    → put_note shape L t r.key.at ≡ Some (note.Cut c right) → Fits shape (after L r.key.at (note.Cut c right)) → StandsOver shape (after L r.key.at (note.Cut c right)) (effect t (Put r))
-put-cut {K} numbers best shape L t r c right h key e fits = by (noted shape L t r.key.at p.here (note.Cut c right) p.noted)
+pub put-cut : {K : ℕ} → PartsNumbers → CutsBest K → (shape : Shape) (L : Layout K) (t : Table) (r : Record K) (c : Cut) (right : ℕ) → StandsOver shape L t → IsKey K r.key.numbers
+    → put_note shape L t r.key.numbers ≡ Some (note.Cut c right) → Fits shape (after_note L r.key.numbers (note.Cut c right)) → StandsOver shape (after_note L r.key.numbers (note.Cut c right)) (effect t (Put r))
+put-cut {K} numbers best shape L t r c right h key e fits = by (noted shape L t r.key.numbers p.here (note.Cut c right) p.noted)
   where
-    p : PutBox shape L t r.key.at (note.Cut c right)
-    p = put-box shape L t r.key.at (note.Cut c right) h e
+    p : PutBox shape L t r.key.numbers (note.Cut c right)
+    p = put-box shape L t r.key.numbers (note.Cut c right) h e
 
-    held : (n : NoteOf) → after L r.key.at n ≡ after_at L (p.number, p.here) n
-    held n = after-held L r.key.at n (p.number, p.here) p.held
+    held : (n : LayoutChange) → after_note L r.key.numbers n ≡ after_note_at L (p.number, p.here) n
+    held n = after-held L r.key.numbers n (p.number, p.here) p.held
 
-    stands : (d : Cut) → cut shape L.scales p.here (keys_with t p.here.region r.key.at) ≡ Some d → Fits shape (after L r.key.at (cut_note L d)) → StandsOver shape (after L r.key.at (cut_note L d)) (effect t (Put r))
+    stands : (d : Cut) → cut shape L.scales p.here (keys_with t p.here.region r.key.numbers) ≡ Some d → Fits shape (after_note L r.key.numbers (cut_note L d)) → StandsOver shape (after_note L r.key.numbers (cut_note L d)) (effect t (Put r))
     stands d is enough = subst (λ (M : Layout K). StandsOver shape M (effect t (Put r))) (sym (held (cut_note L d)))
-        (split-stands numbers shape L t r p.number p.here d h key p.there p.has (cuts best shape L.scales p.here t r.key.at d h.sound.attributes (h.sound.regions p.number p.here p.there) is) (subst (λ (M : Layout K). Fits shape M) (held (cut_note L d)) enough))
+        (split-stands numbers shape L t r p.number p.here d h key p.there p.has (cuts best shape L.scales p.here t r.key.numbers d h.sound.attributes (h.sound.regions p.number p.here p.there) is) (subst (λ (M : Layout K). Fits shape M) (held (cut_note L d)) enough))
 
-    by : Noted shape L t r.key.at p.here (note.Cut c right) → StandsOver shape (after L r.key.at (note.Cut c right)) (effect t (Put r))
+    by : LoggedUpdate shape L t r.key.numbers p.here (note.Cut c right) → StandsOver shape (after_note L r.key.numbers (note.Cut c right)) (effect t (Put r))
     by (There same _) = absurd (cc)
     by (HasRoom same _) = absurd (cc)
-    by (IsCut d same is) = subst (λ n. StandsOver shape (after L r.key.at n) (effect t (Put r))) (sym same) (stands d is (subst (λ n. Fits shape (after L r.key.at n)) same fits))
+    by (IsCut d same is) = subst (λ n. StandsOver shape (after_note L r.key.numbers n) (effect t (Put r))) (sym same) (stands d is (subst (λ n. Fits shape (after_note L r.key.numbers n)) same fits))
 
 -- a note that a remove may merge by is a merge
 merges_only : {K : ℕ} (shape : Shape) (L : Layout K) (t : Table) (k : List ℕ) (c : Cut) (right : ℕ) → Contains (merges shape L t k) (note.Cut c right) → ⊥
@@ -192,29 +192,29 @@ merges_only {K} shape L t k c right h = by (holder L k) h
     none : (ms : List ℕ) (i : ℕ) → i < length (map note.Merge ms) → get_or (map note.Merge ms) i (note.Cut c right) ≡ note.Cut c right → ⊥
     none ms i l e = let long = length-map ms note.Merge in let is = get_or-map note.Merge ms i 0 (note.Cut c right) (omega (arith, l, long)) in cc
 
-    by : (o : Option (ℕ × Box K)) → Contains (option_map_or (λ e. merges_at shape L t k e.1) o []) (note.Cut c right) → ⊥
+    by : (o : Option (ℕ × BucketBox K)) → Contains (option_map_or (λ e. merges_at shape L t k e.1) o []) (note.Cut c right) → ⊥
     by None h = absurd (omega (arith, h.1))
     by (Some e) h = none (partners shape L (without t k) e.1.region) h.0 h.1 h.2
 
 -- lawful notes keep layouts sound, where merges do
 pub keeps-sound : {K : ℕ} → PartsNumbers → CutsBest K
-    → ((shape : Shape) (L : Layout K) (t : Table) (k : Key K) (m : ℕ) → StandsOver shape L t → Contains (merges shape L t k.at) (note.Merge m) → StandsOver shape (after L k.at (note.Merge m)) (effect t (Remove k)))
+    → ((shape : Shape) (L : Layout K) (t : Table) (k : Key K) (m : ℕ) → StandsOver shape L t → Contains (merges shape L t k.numbers) (note.Merge m) → StandsOver shape (after_note L k.numbers (note.Merge m)) (effect t (Remove k)))
     → KeepsSound K
 keeps-sound {K} numbers best merge = record { new = new-stands; after = kept }
   where
-    plain : (shape : Shape) (L : Layout K) (k : List ℕ) (s : Table) → StandsOver shape L s → StandsOver shape (after L k note.Plain) s
+    plain : (shape : Shape) (L : Layout K) (k : List ℕ) (s : Table) → StandsOver shape L s → StandsOver shape (after_note L k note.Plain) s
     plain shape L k s h = subst (λ (M : Layout K). StandsOver shape M s) (sym (after-plain L k)) h
 
-    removed : (shape : Shape) (L : Layout K) (t : Table) (k : Key K) (n : NoteOf) → StandsOver shape L t → (n ≡ note.Plain) ⊎ Contains (merges shape L t k.at) n → StandsOver shape (after L k.at n) (effect t (Remove k))
-    removed shape L t k note.Plain h e = plain shape L k.at (effect t (Remove k)) (remove-plain shape L t k h)
+    removed : (shape : Shape) (L : Layout K) (t : Table) (k : Key K) (n : LayoutChange) → StandsOver shape L t → (n ≡ note.Plain) ⊎ Contains (merges shape L t k.numbers) n → StandsOver shape (after_note L k.numbers n) (effect t (Remove k))
+    removed shape L t k note.Plain h e = plain shape L k.numbers (effect t (Remove k)) (remove-plain shape L t k h)
     removed shape L t k (note.Cut c right) h (inl e) = absurd (cc)
-    removed shape L t k (note.Cut c right) h (inr e) = absurd (merges_only shape L t k.at c right e)
+    removed shape L t k (note.Cut c right) h (inr e) = absurd (merges_only shape L t k.numbers c right e)
     removed shape L t k (note.Merge m) h (inl e) = absurd (cc)
     removed shape L t k (note.Merge m) h (inr e) = merge shape L t k m h e
 
-    kept : (shape : Shape) (L : Layout K) (t : Table) (u : Update K) (n : NoteOf) → StandsOver shape L t → IsKey K (key_of u) → IsLawful shape L t u n
-        → Fits shape (after L (key_of u) n) → StandsOver shape (after L (key_of u) n) (effect t u)
-    kept shape L t (Put r) note.Plain h key e fits = plain shape L r.key.at (effect t (Put r)) (put-plain shape L t r h key e)
+    kept : (shape : Shape) (L : Layout K) (t : Table) (u : Update K) (n : LayoutChange) → StandsOver shape L t → IsKey K (updated_key u) → IsLawfulNote shape L t u n
+        → Fits shape (after_note L (updated_key u) n) → StandsOver shape (after_note L (updated_key u) n) (effect t u)
+    kept shape L t (Put r) note.Plain h key e fits = plain shape L r.key.numbers (effect t (Put r)) (put-plain shape L t r h key e)
     kept shape L t (Put r) (note.Cut c right) h key e fits = put-cut numbers best shape L t r c right h key e fits
-    kept shape L t (Put r) (note.Merge m) h key e fits = absurd (put-never-merges shape L t r.key.at m e)
+    kept shape L t (Put r) (note.Merge m) h key e fits = absurd (put-never-merges shape L t r.key.numbers m e)
     kept shape L t (Remove k) n h key e fits = removed shape L t k n h e.1

@@ -53,7 +53,7 @@ module _ {K : ℕ} where
   makes-states = record {
     start = start;
     next = next;
-    put_there = λ h caller r. ap (λ t. get t r.key.at) (next h (record { caller = caller; update = Put r })) ∙ update-there (state_at h (front h)) r;
-    removal_there = λ h caller k. ap (λ t. get t k.at) (next h (record { caller = caller; update = Remove k })) ∙ removal-there (state_at h (front h)) k;
+    put_there = λ h caller r. ap (λ t. get t r.key.numbers) (next h (record { caller = caller; update = Put r })) ∙ update-there (state_at h (front h)) r;
+    removal_there = λ h caller k. ap (λ t. get t k.numbers) (next h (record { caller = caller; update = Remove k })) ∙ removal-there (state_at h (front h)) k;
     before = before;
   }

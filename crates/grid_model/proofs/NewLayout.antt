@@ -10,7 +10,7 @@ use Rattle.grid_types.specs.Shapes.{is_shape, is_from_to, has_lawful_buckets, ha
 use Rattle.grid_types.proofs.Numbers.{both, first, second, all-at-most}
 use Rattle.grid_model.specs.Scales.{scale_of, is_scale, is_drawn, top}
 use Rattle.grid_model.specs.Cells.{cells}
-use Rattle.grid_model.specs.Layouts.{Box, box, holder, whole, new_layout}
+use Rattle.grid_model.specs.Layouts.{BucketBox, box, holder, whole, new_layout}
 use Rattle.grid_model.specs.LayoutLaws.{StandsOver}
 use Rattle.grid_model.proofs.Found.{one-number}
 use Rattle.grid_model.proofs.Boxes.{one-value, some-not-none}
@@ -65,11 +65,11 @@ whole_has K k key =
     omega (arith, is, most)))
 
 -- the one box of a new layout
-record IsFirst {K : ℕ} (n : ℕ) (b : Box K) : Type 0 where
+record IsFirst {K : ℕ} (n : ℕ) (b : BucketBox K) : Type 0 where
   number : n ≡ 0
   here : record { region = whole K; turn = 0 } ≡ b
 
-first_box : (K n : ℕ) (b : Box K) → box (new_layout K) n ≡ Some b → IsFirst n b
+first_box : (K n : ℕ) (b : BucketBox K) → box (new_layout K) n ≡ Some b → IsFirst n b
 unfolding new_layout
 first_box K n b e = by (eq_by_cmp nat_cmp n 0) refl e
   where
@@ -91,9 +91,9 @@ new-stands {K} shape lawful attributes = record {
     few_boundaries = λ a h. subst (λ s. length s ≤ shape.boundaries) (sym (no_boundary a h)) (omega arith);
     few_cells = let one = one_cell K in let least = leasts.cells in omega (arith, one, least);
     numbered = tt;
-    regions = λ n b e. subst (λ (d : Box K). IsRegion K d.region) (first_box K n b e).here (record { low = alike_key K 0 (omega arith); high = alike_key K top (omega arith); not_empty = λ a h. between a h });
-    turns = λ n b e. subst (λ (d : Box K). d.turn < K) (first_box K n b e).here (let least = leasts.attributes in omega (arith, least, attributes));
-    drawn = λ n b e a h. subst (λ (d : Box K). IsTrue (is_drawn (scale_of (replicate K []) a) (slice_index d.region.lo a) (slice_index d.region.hi a))) (first_box K n b e).here (ends a h);
+    regions = λ n b e. subst (λ (d : BucketBox K). IsRegion K d.region) (first_box K n b e).here (record { low = alike_key K 0 (omega arith); high = alike_key K top (omega arith); not_empty = λ a h. between a h });
+    turns = λ n b e. subst (λ (d : BucketBox K). d.turn < K) (first_box K n b e).here (let least = leasts.attributes in omega (arith, least, attributes));
+    drawn = λ n b e a h. subst (λ (d : BucketBox K). IsTrue (is_drawn (scale_of (replicate K []) a) (slice_index d.region.lo a) (slice_index d.region.hi a))) (first_box K n b e).here (ends a h);
     covers = λ k key. ap (λ t. is_some (cond t (Some first_entry) None)) (whole_has K k key);
     apart = λ k n m b c there here _ _. let n_is = (first_box K n b there).number in let m_is = (first_box K m c here).number in omega (arith, n_is, m_is);
     room = λ n b e. omega arith;
@@ -104,10 +104,10 @@ new-stands {K} shape lawful attributes = record {
     leasts : HasLeasts shape
     leasts = has-leasts shape lawful
 
-    first_one : Box K
+    first_one : BucketBox K
     first_one = record { region = whole K; turn = 0 }
 
-    first_entry : ℕ × Box K
+    first_entry : ℕ × BucketBox K
     first_entry = (0, first_one)
 
     no_boundary : (a : ℕ) → a < K → scale_of (replicate K []) a ≡ []

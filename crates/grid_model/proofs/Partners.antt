@@ -10,16 +10,16 @@ use Rattle.std.specs.FinMap.Entries.{is_sorted}
 use lib.Pointwise.{pointwise}
 use Rattle.grid_types.specs.declared.region.Region.{Region}
 use Rattle.grid_types.specs.declared.shape.Shape.{Shape}
-use Rattle.grid_types.specs.declared.note.Cut.{Cut}
-use Rattle.grid_types.specs.declared.note.NoteOf.{NoteOf}
-use Rattle.grid_types.specs.declared.note.NoteOf.TheVariants as note
+use Rattle.grid_types.specs.declared.layout_change.Cut.{Cut}
+use Rattle.grid_types.specs.declared.layout_change.LayoutChange.{LayoutChange}
+use Rattle.grid_types.specs.declared.layout_change.LayoutChange.TheVariants as note
 use Rattle.grid_types.specs.Regions.{contains}
 use Rattle.grid_types.proofs.Each.{fails-last}
 use Rattle.grid_types.proofs.Numbers.{first, second, one-above}
 use Rattle.grid_model.specs.Scales.{top}
 use Rattle.grid_model.specs.Tables.{Table, get, without}
-use Rattle.grid_model.specs.Layouts.{Box, Layout, box, holder, inside}
-use Rattle.grid_model.specs.Neighbours.{Side, Below, Above, sides_of, sides, probe, make_a_box, fit_together, can_join, if_joins, joins, partners}
+use Rattle.grid_model.specs.Layouts.{BucketBox, Layout, box, holder, records_inside}
+use Rattle.grid_model.specs.Neighbours.{Direction, Below, Above, directions_of, directions, probe, make_a_box, fit_together, can_join, if_joins, joins, partners}
 use Rattle.grid_model.specs.Cuts.{cut}
 use Rattle.grid_model.specs.Notes.{merges, merges_at, put_note, put_note_at, cut_note, keys_with}
 use Rattle.grid_model.proofs.Boxes.{one-box}
@@ -27,7 +27,7 @@ use Rattle.grid_model.proofs.Holders.{holder-box}
 
 -- a number of a box that the region joins with: the box has a key that the region does not have
 record IsPartner {K : ℕ} (shape : Shape) (L : Layout K) (t : Table) (r : Region K) (m : ℕ) : Type 0 where
-  pub here : Box K
+  pub here : BucketBox K
   pub key : List ℕ
   pub outside : contains r key ≡ false
   pub found : holder L key ≡ Some (m, here)
@@ -64,11 +64,11 @@ module _ {K : ℕ} (shape : Shape) (L : Layout K) (t : Table) (r : Region K) whe
   box-of-key : (k : List ℕ) → contains r k ≡ false → IfSome (option_and_then (if_joins shape t r) (holder L k)) Partner
   box-of-key k outside = by (holder L k) refl
     where
-      joined : (e : ℕ × Box K) → holder L k ≡ Some e → (s : Bool) → can_join shape t r e.1.region ≡ s → IfSome (cond s (Some e.0) None) (IsPartner shape L t r)
+      joined : (e : ℕ × BucketBox K) → holder L k ≡ Some e → (s : Bool) → can_join shape t r e.1.region ≡ s → IfSome (cond s (Some e.0) None) (IsPartner shape L t r)
       joined e h true f = record { here = e.1; key = k; outside = outside; found = h; fits = f }
       joined e h false f = tt
 
-      by : (o : Option (ℕ × Box K)) → holder L k ≡ o → IfSome (option_and_then (if_joins shape t r) o) (IsPartner shape L t r)
+      by : (o : Option (ℕ × BucketBox K)) → holder L k ≡ o → IfSome (option_and_then (if_joins shape t r) o) (IsPartner shape L t r)
       by None h = tt
       by (Some e) h = joined e h (can_join shape t r e.1.region) refl
 
@@ -78,11 +78,11 @@ module _ {K : ℕ} (shape : Shape) (L : Layout K) (t : Table) (r : Region K) whe
   at-probe (Some k) h = box-of-key k h
 
   -- each side of an attribute has no neighbour that joins, or a partner
-  each-side : (i n : ℕ) → i + n ≡ length r.lo → AllByRecursion (λ side. IfSome (joins shape L t r side) Partner) (flat_map sides_of (range_with_len i n))
+  each-side : (i n : ℕ) → i + n ≡ length r.lo → AllByRecursion (λ side. IfSome (joins shape L t r side) Partner) (flat_map directions_of (range_with_len i n))
   each-side i zero e = tt
   each-side i (suc n) e = (at-probe (probe r (Below i)) (below-outside r i (omega (arith, e))), (at-probe (probe r (Above i)) (above-outside r i (omega (arith, e))), each-side (i + 1) n (omega (arith, e))))
 
-  what-joins : (xs : List Side) → AllByRecursion (λ side. IfSome (joins shape L t r side) Partner) xs → AllByRecursion Partner (filter_map (joins shape L t r) xs)
+  what-joins : (xs : List Direction) → AllByRecursion (λ side. IfSome (joins shape L t r side) Partner) xs → AllByRecursion Partner (filter_map (joins shape L t r) xs)
   what-joins [] h = tt
   what-joins (x ∷ xs) (p, h) = by (joins shape L t r x) p (what-joins xs h)
     where
@@ -93,13 +93,13 @@ module _ {K : ℕ} (shape : Shape) (L : Layout K) (t : Table) (r : Region K) whe
   -- each of the partners is one
   each-partner : All Partner (partners shape L t r)
   unfolding partners
-  each-partner = All-from_recursion Partner (partners shape L t r) (what-joins (sides (length r.lo)) (each-side 0 (length r.lo) (omega arith)))
+  each-partner = All-from_recursion Partner (partners shape L t r) (what-joins (directions (length r.lo)) (each-side 0 (length r.lo) (omega arith)))
 
 -- a merge that a remove of a key may take: the box that has the key, and another one that makes a box with it and fits
 pub record IsMergeOf {K : ℕ} (shape : Shape) (L : Layout K) (t : Table) (k : List ℕ) (m : ℕ) : Type 0 where
   pub number : ℕ
-  pub here : Box K
-  pub other : Box K
+  pub here : BucketBox K
+  pub other : BucketBox K
   pub holds : holder L k ≡ Some (number, here)
   pub there : box L number ≡ Some here
   pub beside : box L m ≡ Some other
@@ -108,7 +108,7 @@ pub record IsMergeOf {K : ℕ} (shape : Shape) (L : Layout K) (t : Table) (k : L
   pub fit : fit_together shape (without t k) here.region other.region ≡ true
 
 -- a partner of the region of the box that has the key makes a merge
-with-partner : {K : ℕ} (shape : Shape) (L : Layout K) (t : Table) (k : List ℕ) (m : ℕ) (e : ℕ × Box K) → T (is_sorted nat_cmp L.boxes) → holder L k ≡ Some e → IsPartner shape L (without t k) e.1.region m → IsMergeOf shape L t k m
+with-partner : {K : ℕ} (shape : Shape) (L : Layout K) (t : Table) (k : List ℕ) (m : ℕ) (e : ℕ × BucketBox K) → T (is_sorted nat_cmp L.boxes) → holder L k ≡ Some e → IsPartner shape L (without t k) e.1.region m → IsMergeOf shape L t k m
 with-partner shape L t k m e sorted holds p = record {
   number = e.0;
   here = e.1;
@@ -129,7 +129,7 @@ with-partner shape L t k m e sorted holds p = record {
 
 module _ {K : ℕ} (shape : Shape) (L : Layout K) (t : Table) (k : List ℕ) where
   -- what a note says where it is a merge of a region
-  abbrev Merges : Region K → NoteOf → Type 0
+  abbrev Merges : Region K → LayoutChange → Type 0
   Merges r note.Plain = ⊤
   Merges r (note.Cut c right) = ⊤
   Merges r (note.Merge m) = IsPartner shape L (without t k) r m
@@ -139,7 +139,7 @@ module _ {K : ℕ} (shape : Shape) (L : Layout K) (t : Table) (k : List ℕ) whe
   unfolding merges
   each-merge m sorted h = by (holder L k) refl h
     where
-      by : (o : Option (ℕ × Box K)) → holder L k ≡ o → Contains (option_map_or (λ e. merges_at shape L t k e.1) o []) (note.Merge m) → IsMergeOf shape L t k m
+      by : (o : Option (ℕ × BucketBox K)) → holder L k ≡ o → Contains (option_map_or (λ e. merges_at shape L t k e.1) o []) (note.Merge m) → IsMergeOf shape L t k m
       by None e q = absurd (omega (arith, q.1))
       by (Some e) p q =
           let ps = partners shape L (without t k) e.1.region in
@@ -158,6 +158,6 @@ module _ {K : ℕ} (shape : Shape) (L : Layout K) (t : Table) (k : List ℕ) whe
       no-note true o q = cc
       no-note false o q = no-cut o q
 
-      by : (o : Option (ℕ × Box K)) → option_and_then (λ e. put_note_at shape L t k e.1) o ≢ Some (note.Merge m)
+      by : (o : Option (ℕ × BucketBox K)) → option_and_then (λ e. put_note_at shape L t k e.1) o ≢ Some (note.Merge m)
       by None q = cc
-      by (Some e) q = no-note (is_some (get t k) || nat_lt (length (inside t e.1.region)) shape.capacity) (cut shape L.scales e.1 (keys_with t e.1.region k)) q
+      by (Some e) q = no-note (is_some (get t k) || nat_lt (length (records_inside t e.1.region)) shape.capacity) (cut shape L.scales e.1 (keys_with t e.1.region k)) q

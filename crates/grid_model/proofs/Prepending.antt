@@ -5,7 +5,7 @@ use Rattle.grid_types.specs.declared.shape.Shape.{Shape}
 use Rattle.grid_types.specs.declared.update.Update.{Update}
 use Rattle.grid_types.specs.declared.update.Update.TheVariants.{Put, Remove}
 use Rattle.grid_types.specs.declared.update.Entry.{Entry}
-use Rattle.grid_types.specs.declared.note.NoteOf.{NoteOf}
+use Rattle.grid_types.specs.declared.layout_change.LayoutChange.{LayoutChange}
 use Rattle.grid_types.specs.declared.request.Request.{Request}
 use Rattle.grid_types.specs.declared.request.Request.TheVariants as ask
 use Rattle.grid_types.specs.declared.request.Reply.{Reply}
@@ -14,14 +14,14 @@ use Rattle.grid_model.specs.Tables.{Table, get}
 use Rattle.grid_model.specs.Layouts.{Layout}
 use Rattle.grid_model.specs.Listings.{rows}
 use Rattle.grid_model.specs.Lone.{record_of}
-use Rattle.grid_model.specs.Notes.{IsLawful}
-use Rattle.grid_model.specs.Histories.{History, Layouts, IsPlace, IsNoted, entry_at, entry_effect, noted_effect, state_at, layout_at}
+use Rattle.grid_model.specs.Notes.{IsLawfulNote}
+use Rattle.grid_model.specs.Histories.{History, Layouts, IsPlace, IsNoted, entry_at, entry_effect, layout_effect, state_at, layout_at}
 use Rattle.grid_model.proofs.Boxes.{one-value}
 use Rattle.grid_model.specs.Answers.{IsReading, IsUpdate, IsRemoval, IsCounted, IsLegal}
 
-same-lawful : {K : ℕ} (shape : Shape) {L M : Layout K} {t s : Table} {u v : Update K} {n m : NoteOf} → L ≡ M → t ≡ s → u ≡ v → n ≡ m → IsLawful shape L t u n → IsLawful shape M s v m
+same-lawful : {K : ℕ} (shape : Shape) {L M : Layout K} {t s : Table} {u v : Update K} {n m : LayoutChange} → L ≡ M → t ≡ s → u ≡ v → n ≡ m → IsLawfulNote shape L t u n → IsLawfulNote shape M s v m
 same-lawful shape {L} {M} {t} {s} {u} {v} {n} {m} p q r o l =
-    subst (λ x. IsLawful shape M s v x) o (subst (λ x. IsLawful shape M s x n) r (subst (λ x. IsLawful shape M x u n) q (subst (λ x. IsLawful shape x t u n) p l)))
+    subst (λ x. IsLawfulNote shape M s v x) o (subst (λ x. IsLawfulNote shape M s x n) r (subst (λ x. IsLawfulNote shape M x u n) q (subst (λ x. IsLawfulNote shape x t u n) p l)))
 
 none-before : (a m : ℕ) → m ≡ a → m - a ≡ 0
 none-before a m e = omega (arith, e)
@@ -33,10 +33,10 @@ start-state h m e = ap (λ j. fold entry_effect h.base (take j h.entries)) (none
 
 pub start-layout : {K : ℕ} (h : History K) (ls : Layouts K) (m : ℕ) → m ≡ h.from → layout_at h ls m ≡ ls.first
 unfolding layout_at
-start-layout h ls m e = ap (λ j. fold noted_effect ls.first (zip (take j h.entries) ls.notes)) (none-before h.from m e)
+start-layout h ls m e = ap (λ j. fold layout_effect ls.first (zip (take j h.entries) ls.notes)) (none-before h.from m e)
 
-module _ {K : ℕ} (h : History K) (ls : Layouts K) (begin : ℕ) (base : Table) (first : Layout K) (e : Entry K) (n : NoteOf)
-    (from : h.from ≡ begin + 1) (table : h.base ≡ entry_effect base e) (layout : ls.first ≡ noted_effect first (e, n)) where
+module _ {K : ℕ} (h : History K) (ls : Layouts K) (begin : ℕ) (base : Table) (first : Layout K) (e : Entry K) (n : LayoutChange)
+    (from : h.from ≡ begin + 1) (table : h.base ≡ entry_effect base e) (layout : ls.first ≡ layout_effect first (e, n)) where
   -- the history with the entry in front
   abbrev pub longer : History K
   longer = record { from = begin; base = base; entries = e ∷ h.entries }
@@ -56,8 +56,8 @@ module _ {K : ℕ} (h : History K) (ls : Layouts K) (begin : ℕ) (base : Table)
   pub layout-later : (m : ℕ) → h.from ≤ m → layout_at longer longer-layouts m ≡ layout_at h ls m
   unfolding layout_at
   layout-later m l =
-      ap (λ j. fold noted_effect first (zip (take j (e ∷ h.entries)) (n ∷ ls.notes))) (later m l)
-      ∙ ap (λ t. fold noted_effect t (zip (take (m - h.from) h.entries) ls.notes)) (sym layout)
+      ap (λ j. fold layout_effect first (zip (take j (e ∷ h.entries)) (n ∷ ls.notes))) (later m l)
+      ∙ ap (λ t. fold layout_effect t (zip (take (m - h.from) h.entries) ls.notes)) (sym layout)
 
   earlier : (m : ℕ) → h.from < m → m - begin - 1 ≡ suc (m - h.from - 1)
   earlier m l = omega (arith, l, from)
@@ -89,9 +89,9 @@ module _ {K : ℕ} (h : History K) (ls : Layouts K) (begin : ℕ) (base : Table)
 
   -- a legal answer of the later history is one of the longer history
   pub legal-later : (shape : Shape) (caller : ℕ) (r : Request K) (reply : Reply K) → IsLegal shape h ls caller r reply → IsLegal shape longer longer-layouts caller r reply
-  legal-later shape caller (ask.Put r) (told.Put a) g = record { answer = update-later caller (Put r) r.key.at a.at a.value g.answer; layout = tt }
-  legal-later shape caller (ask.Remove k) (told.Removed a) g = record { answer = removal-later caller (Remove k) k.at a.at a.value g.answer; layout = tt }
-  legal-later shape caller (ask.Get k) (told.Got a) g = record { answer = reading-later a.at a.value (λ t. get t k.at) g.answer; layout = tt }
+  legal-later shape caller (ask.Put r) (told.Put a) g = record { answer = update-later caller (Put r) r.key.numbers a.at a.value g.answer; layout = tt }
+  legal-later shape caller (ask.Remove k) (told.Removed a) g = record { answer = removal-later caller (Remove k) k.numbers a.at a.value g.answer; layout = tt }
+  legal-later shape caller (ask.Get k) (told.Got a) g = record { answer = reading-later a.at a.value (λ t. get t k.numbers) g.answer; layout = tt }
   legal-later shape caller (ask.List q) (told.Listed a) g = record { answer = reading-later a.at a.value (λ t. map record_of (rows t q)) g.answer; layout = tt }
   legal-later shape caller (ask.Count q) (told.Counted a) g = record { answer = reading-later a.at a.value (λ t. length (rows t q)) g.answer; layout = tt }
   legal-later shape caller ask.Stat (told.Stood a) g = record {
@@ -117,10 +117,10 @@ module _ {K : ℕ} (h : History K) (ls : Layouts K) (begin : ℕ) (base : Table)
   layout-there i = ap (layout_at longer longer-layouts) (place i) ∙ layout-later (h.from + i) (omega arith)
 
   -- the notes are lawful, where that of the first entry is
-  pub noted-longer : (shape : Shape) → IsLawful shape first base e.update n → IsNoted shape h ls → IsNoted shape longer longer-layouts
+  pub noted-longer : (shape : Shape) → IsLawfulNote shape first base e.update n → IsNoted shape h ls → IsNoted shape longer longer-layouts
   noted-longer shape l g = record { each = ap suc g.each; lawful = each }
     where
-      each : (i : ℕ) (x : Entry K) (m : NoteOf) → slice_get (e ∷ h.entries) i ≡ Some x → slice_get (n ∷ ls.notes) i ≡ Some m
-          → IsLawful shape (layout_at longer longer-layouts (begin + i)) (state_at longer (begin + i)) x.update m
+      each : (i : ℕ) (x : Entry K) (m : LayoutChange) → slice_get (e ∷ h.entries) i ≡ Some x → slice_get (n ∷ ls.notes) i ≡ Some m
+          → IsLawfulNote shape (layout_at longer longer-layouts (begin + i)) (state_at longer (begin + i)) x.update m
       each zero x m p q = same-lawful shape (sym first-layout) (sym first-table) (ap (λ y. y.update) (one-value e x p)) (one-value n m q) l
       each (suc i) x m p q = same-lawful shape (sym (layout-there i)) (sym (state-there i)) refl refl (g.lawful i x m p q)

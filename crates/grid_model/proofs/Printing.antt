@@ -103,7 +103,7 @@ key-plain (n ∷ []) = decimal-plain n
 key-plain (n ∷ m ∷ ns) = all-append inner (decimal n) (44 ∷ key_text (m ∷ ns)) (decimal-plain n) (key-plain (m ∷ ns))
 
 row-plain : {K : ℕ} (r : Record K) → plain (row_text r) ≡ true
-row-plain r = all-append inner (key_text r.key.at) (32 ∷ hex_text r.value) (key-plain r.key.at) (hex-plain r.value)
+row-plain r = all-append inner (key_text r.key.numbers) (32 ∷ hex_text r.value) (key-plain r.key.numbers) (hex-plain r.value)
 
 rows-plain : {K : ℕ} (rs : List (Record K)) → all-plain (map row_text rs) ≡ true
 rows-plain [] = refl

@@ -5,7 +5,7 @@ use Rattle.std.specs.List.{range_with_len, cons_option}
 use Rattle.std.specs.Option.{option_and_then, is_some}
 use Rattle.grid_types.specs.declared.request.Line.{Line}
 use Rattle.grid_model.specs.Script.{Meaning, Silent, Speaks, Asks, Bad, asked, also, meanings, longest, lines}
-use Rattle.grid_model.specs.ScriptLaws.{speaker, line_of, IsFirstBad, IsOneScript}
+use Rattle.grid_model.specs.ScriptLaws.{speaker, line_of, IsFirstBadLine, IsOneScript}
 
 -- a value and an error are told apart
 abbrev is-ok : {X E : Type 0} → Result X E → Bool
@@ -161,10 +161,10 @@ module _ {K : ℕ} where
       by true p = ltb-true longest (length bytes) p
       by false p = absurd (omega (arith, (fault-first 1 1 (meanings K bytes) 0 (sym (short bytes (ltb-false longest (length bytes) p)) ∙ e)).some))
 
-  first-of : (ms : List (Meaning K)) (n : ℕ) → IsFirstFrom 1 ms n → IsFirstBad ms n
+  first-of : (ms : List (Meaning K)) (n : ℕ) → IsFirstFrom 1 ms n → IsFirstBadLine ms n
   first-of ms n h = record { some = h.some; bad = h.bad; first = h.first }
 
-  fault-of : (ms : List (Meaning K)) (n : ℕ) → IsFirstBad ms n → asked 1 1 ms ≡ Err n
+  fault-of : (ms : List (Meaning K)) (n : ℕ) → IsFirstBadLine ms n → asked 1 1 ms ≡ Err n
   fault-of ms n h = first-fault 1 1 ms (n - 1) h.bad (λ i l. h.first i (omega (arith, l))) ∙ ap Err (counted n h.some)
 
   whole-of : (ms : List (Meaning K)) (ls : List (Line K)) → asked 1 1 ms ≡ Ok ls → NoneBad ms × (ls ≡ told 1 ms)

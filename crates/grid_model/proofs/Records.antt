@@ -7,7 +7,7 @@ use Rattle.grid_types.specs.declared.region.Region.{Region}
 use Rattle.grid_types.specs.Keys.{key_cmp}
 use Rattle.grid_types.specs.Regions.{contains}
 use Rattle.grid_model.specs.Tables.{Table, get, without}
-use Rattle.grid_model.specs.Layouts.{inside}
+use Rattle.grid_model.specs.Layouts.{records_inside}
 
 maybe-more : (a : Bool) (e : List ℕ × List ℕ) (s : Table) → length s ≤ length (cond a (e ∷ s) s)
 maybe-more true e s = omega arith
@@ -40,11 +40,11 @@ pass-no-more p q (e ∷ es) = by (q e.0) (pass-no-more p q es)
     by false rest = omega (arith, rest, maybe-more (p e.0) e (where_key key_cmp p es))
 
 -- a region whose keys are those of two others holds at most the records of both
-pub at-most-both : {K : ℕ} (h r s : Region K) → ((k : List ℕ) → contains h k ≡ (contains r k || contains s k)) → (t : Table) → length (inside t h) ≤ length (inside t r) + length (inside t s)
+pub at-most-both : {K : ℕ} (h r s : Region K) → ((k : List ℕ) → contains h k ≡ (contains r k || contains s k)) → (t : Table) → length (records_inside t h) ≤ length (records_inside t r) + length (records_inside t s)
 at-most-both h r s = pass-at-most-both (contains r) (contains s) (contains h)
 
 -- a region holds no more records without a key than before
-pub no-more-without : {K : ℕ} (t : Table) (k : List ℕ) (r : Region K) → length (inside (without t k) r) ≤ length (inside t r)
+pub no-more-without : {K : ℕ} (t : Table) (k : List ℕ) (r : Region K) → length (records_inside (without t k) r) ≤ length (records_inside t r)
 no-more-without t k r = pass-no-more (contains r) (λ x. not (eq_by_cmp key_cmp k x)) t
 
 -- what a table has without a key it had before

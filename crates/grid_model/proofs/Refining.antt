@@ -1,7 +1,7 @@
 -- A directory never gets smaller by a cut.
 use Rattle.std.proofs.Common.{◌≡◌, ◌≤◌, ◌+◌, ◌/◌, ℕ, zero, suc, Bool, true, false, cond, List, [], ◌∷◌, map, length, slice_set, arith}
 use Rattle.std.proofs.Math.Nat.{mul-le-mul_left, mul-le-mul_right}
-use Rattle.grid_types.specs.declared.note.Cut.{Cut}
+use Rattle.grid_types.specs.declared.layout_change.Cut.{Cut}
 use Rattle.grid_model.specs.Lists.{product}
 use Rattle.grid_model.specs.Scales.{scale_of, intervals, refined, is_scale}
 use Rattle.grid_model.specs.Cells.{cells, parts}

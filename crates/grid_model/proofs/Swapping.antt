@@ -5,12 +5,12 @@ use Rattle.std.specs.FinMap.{nat_cmp-IsAntisymmetric}
 use Rattle.std.specs.Option.{is_some}
 use Rattle.std.specs.Cmp.{nat_cmp_total}
 use Rattle.std.specs.FinMap.Entries.{find, put, where_key, is_sorted, is_sorted-put, find-put, find-where_key, is_sorted-where_key}
-use Rattle.grid_types.specs.declared.note.NoteOf.TheVariants as note
-use Rattle.grid_types.specs.declared.note.Cut.{Cut}
+use Rattle.grid_types.specs.declared.layout_change.LayoutChange.TheVariants as note
+use Rattle.grid_types.specs.declared.layout_change.Cut.{Cut}
 use Rattle.grid_model.specs.Lists.{below, is_among, AreDistinct}
 use Rattle.grid_model.specs.Scales.{scale_of, is_scale, refined}
 use Rattle.grid_model.specs.Cells.{parts, parts_holding}
-use Rattle.grid_model.specs.Layouts.{Box, Layout, box}
+use Rattle.grid_model.specs.Layouts.{BucketBox, Layout, box}
 use Rattle.grid_model.specs.Notes.{split, joined, left_of, right_of, scales_after, together}
 use Rattle.grid_model.specs.LayoutLaws.{IsMerge}
 use Rattle.grid_model.specs.Lone.{Owners, among, how_many, renewed, dropped, parts_of_merge}
@@ -65,8 +65,8 @@ parts-swap : {K : ℕ} (L : Layout K) (rooted : Owners) → IsRooted L rooted �
 parts-swap L rooted h true new held same grow = omega (arith, length-part (is_among (below (parts new))) rooted.parts, few-below (parts L.scales) rooted.parts h.distinct_parts h.parts_there, length-range_with_len 0 (parts new))
 parts-swap L rooted h false new held same grow = omega (arith, ap parts (same refl), few-among held rooted.parts h.distinct_parts)
 
-module _ {K : ℕ} (L : Layout K) (n : ℕ) (b : Box K) (c : Cut) (right : ℕ) (rooted : Owners) (there : box L n ≡ Some b) (free : box L right ≡ None) (sorted : T (is_sorted nat_cmp L.boxes)) (h : IsRooted L rooted) where
-  left : List (ℕ × Box K)
+module _ {K : ℕ} (L : Layout K) (n : ℕ) (b : BucketBox K) (c : Cut) (right : ℕ) (rooted : Owners) (there : box L n ≡ Some b) (free : box L right ≡ None) (sorted : T (is_sorted nat_cmp L.boxes)) (h : IsRooted L rooted) where
+  left : List (ℕ × BucketBox K)
   left = put nat_cmp n (left_of b c) L.boxes
 
   -- a cut makes one box more
@@ -101,8 +101,8 @@ module _ {K : ℕ} (L : Layout K) (n : ℕ) (b : Box K) (c : Cut) (right : ℕ) 
     total = omega (arith, one-more, one-hit, parts-swap L rooted h c.fresh (scales_after L.scales c) (parts_holding L.scales (right_of b c).region) (λ e. ap (λ t. cond t (slice_set L.scales c.attribute (refined (scale_of L.scales c.attribute) c.value)) L.scales) e) (parts-grow L.scales c a));
   }
 
-module _ {K : ℕ} (L : Layout K) (n : ℕ) (b : Box K) (m : ℕ) (o : Box K) (rooted : Owners) (there : box L n ≡ Some b) (other : box L m ≡ Some o) (differ : n ≢ m) (sorted : T (is_sorted nat_cmp L.boxes)) (h : IsRooted L rooted) where
-  rest : List (ℕ × Box K)
+module _ {K : ℕ} (L : Layout K) (n : ℕ) (b : BucketBox K) (m : ℕ) (o : BucketBox K) (rooted : Owners) (there : box L n ≡ Some b) (other : box L m ≡ Some o) (differ : n ≢ m) (sorted : T (is_sorted nat_cmp L.boxes)) (h : IsRooted L rooted) where
+  rest : List (ℕ × BucketBox K)
   rest = where_key nat_cmp (λ x. not (x == max n m)) L.boxes
 
   -- both numbers are among the boxes

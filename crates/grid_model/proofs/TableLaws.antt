@@ -39,8 +39,8 @@ same_tables = same_entries key_cmp nat_list_cmp_total one_key
 
 pub effect-table : {K : ℕ} (t : Table) (u : Update K) → IsTable t → IsTable (effect t u)
 unfolding effect
-effect-table t (Put r) h = is_sorted-put key_cmp nat_list_cmp_total r.key.at r.value t h
-effect-table t (Remove k) h = is_sorted-where_key key_cmp (λ x. not (eq_by_cmp key_cmp k.at x)) t h
+effect-table t (Put r) h = is_sorted-put key_cmp nat_list_cmp_total r.key.numbers r.value t h
+effect-table t (Remove k) h = is_sorted-where_key key_cmp (λ x. not (eq_by_cmp key_cmp k.numbers x)) t h
 
 pub with_data-table : (t : Table) (k d : List ℕ) → IsTable t → IsTable (with_data t k d)
 with_data-table t k d h = is_sorted-put key_cmp nat_list_cmp_total k d t h
@@ -61,18 +61,18 @@ gone-elsewhere t k q differ =
     find-where_key key_cmp (λ x. not (eq_by_cmp key_cmp k x)) q (alike _ q) t
     ∙ ap (λ b. cond (not b) (get t q) None) (keys_differ k q differ)
 
-pub update-there : {K : ℕ} (t : Table) (r : Record K) → get (effect t (Put r)) r.key.at ≡ Some r.value
+pub update-there : {K : ℕ} (t : Table) (r : Record K) → get (effect t (Put r)) r.key.numbers ≡ Some r.value
 unfolding effect
-update-there t r = put-there t r.key.at r.value
+update-there t r = put-there t r.key.numbers r.value
 
-pub update-elsewhere : {K : ℕ} (t : Table) (r : Record K) (q : List ℕ) → q ≢ r.key.at → get (effect t (Put r)) q ≡ get t q
+pub update-elsewhere : {K : ℕ} (t : Table) (r : Record K) (q : List ℕ) → q ≢ r.key.numbers → get (effect t (Put r)) q ≡ get t q
 unfolding effect
-update-elsewhere t r q differ = put-elsewhere t r.key.at r.value q differ
+update-elsewhere t r q differ = put-elsewhere t r.key.numbers r.value q differ
 
-pub removal-there : {K : ℕ} (t : Table) (k : Key K) → get (effect t (Remove k)) k.at ≡ None
+pub removal-there : {K : ℕ} (t : Table) (k : Key K) → get (effect t (Remove k)) k.numbers ≡ None
 unfolding effect
-removal-there t k = gone-there t k.at
+removal-there t k = gone-there t k.numbers
 
-pub removal-elsewhere : {K : ℕ} (t : Table) (k : Key K) (q : List ℕ) → k.at ≢ q → get (effect t (Remove k)) q ≡ get t q
+pub removal-elsewhere : {K : ℕ} (t : Table) (k : Key K) (q : List ℕ) → k.numbers ≢ q → get (effect t (Remove k)) q ≡ get t q
 unfolding effect
-removal-elsewhere t k q differ = gone-elsewhere t k.at q differ
+removal-elsewhere t k q differ = gone-elsewhere t k.numbers q differ

@@ -7,7 +7,7 @@ use Rattle.grid_types.specs.declared.update.Update.TheVariants.{Put, Remove}
 use Rattle.grid_types.specs.declared.update.Entry.{Entry}
 use Rattle.grid_types.specs.declared.refusal.Refusal.{Refusal}
 use Rattle.grid_types.specs.declared.refusal.Refusal.TheVariants.{Full, NoCut, BadQuery}
-use Rattle.grid_types.specs.declared.note.NoteOf.{NoteOf}
+use Rattle.grid_types.specs.declared.layout_change.LayoutChange.{LayoutChange}
 use Rattle.grid_types.specs.declared.request.Request.{Request}
 use Rattle.grid_types.specs.declared.request.Request.TheVariants as ask
 use Rattle.grid_types.specs.declared.request.Reply.{Reply}
@@ -18,9 +18,9 @@ use Rattle.grid_types.specs.Keys.{IsKey}
 use Rattle.grid_types.specs.Queries.{is_lawful}
 use Rattle.grid_model.specs.Cells.{cells}
 use Rattle.grid_model.specs.Tables.{Table, get, effect}
-use Rattle.grid_model.specs.Layouts.{Box, Layout, holder, new_layout}
+use Rattle.grid_model.specs.Layouts.{BucketBox, Layout, holder, new_layout}
 use Rattle.grid_model.specs.Listings.{rows}
-use Rattle.grid_model.specs.Notes.{key_of, put_note, merges, after, after_at, IsLawful}
+use Rattle.grid_model.specs.Notes.{updated_key, put_note, merges, after_note, after_note_at, IsLawfulNote}
 use Rattle.grid_model.specs.Histories.{History, Layouts, IsPlace, front, entry_at, state_at, layout_at}
 use Rattle.grid_model.specs.Answers.{IsReading, IsRemoval, IsCounted, IsLegal, IsRefusal}
 use Rattle.grid_model.specs.LayoutLaws.{KeepsSound, IsLeastUnused, MergesTwo}
@@ -44,15 +44,15 @@ record Same {K : ℕ} (s new : State K) : Type 0 where
   front_is : new.front ≡ s.front
 
 -- an update with its note stands at the next place
-record Moved {K : ℕ} (s : State K) (u : Update K) (n : NoteOf) (new : State K) : Type 0 where
+record Moved {K : ℕ} (s : State K) (u : Update K) (n : LayoutChange) (new : State K) : Type 0 where
   table : new.table ≡ effect s.table u
-  layout : new.layout ≡ after s.layout (key_of u) n
+  layout : new.layout ≡ after_note s.layout (updated_key u) n
   front_is : new.front ≡ s.front + 1
 
 -- what a request does: it leaves table, layout and front, and its reply is legal wherever they stand, or it makes one update, and its reply is legal where that is the next entry
 data Step {K : ℕ} (shape : Shape) (caller : ℕ) (s : State K) (r : Request K) (o : Outcome K) : Type 0 where
   Stays : Same s o.state → ((h : History K) (ls : Layouts K) → StandsAt h ls s → IsLegal shape h ls caller r o.reply ⊎ IsRefusal o.reply) → Step shape caller s r o
-  Moves : (u : Update K) (n : NoteOf) → Moved s u n o.state → IsLawful shape s.layout s.table u n
+  Moves : (u : Update K) (n : LayoutChange) → Moved s u n o.state → IsLawfulNote shape s.layout s.table u n
       → ((h : History K) (ls : Layouts K) → entry_at h (s.front + 1) ≡ Some (record { caller = caller; update = u }) → state_at h s.front ≡ s.table → IsLegal shape h ls caller r o.reply) → Step shape caller s r o
 
 itself : {K : ℕ} (s : State K) → Same s s
@@ -66,7 +66,7 @@ request_of (Remove k) = ask.Remove k
 -- an update that finds what it has to find: a put always, a remove its key
 abbrev Finds : {K : ℕ} → Table → Update K → Type 0
 Finds t (Put r) = Unit {0}
-Finds t (Remove k) = IsSome (get t k.at)
+Finds t (Remove k) = IsSome (get t k.numbers)
 
 before : (n : ℕ) → n + 1 - 1 ≡ n
 before n = omega arith
@@ -78,24 +78,24 @@ module _ {K : ℕ} (shape : Shape) (caller : ℕ) where
   -- the reply to an update is legal where it is the next entry
   legal-update : (s : State K) (u : Update K) → Finds s.table u → (h : History K) (ls : Layouts K) → entry_at h (s.front + 1) ≡ Some (record { caller = caller; update = u }) → state_at h s.front ≡ s.table
       → IsLegal shape h ls caller (request_of u) (update_reply u (s.front + 1) s.table)
-  legal-update s (Put r) f h ls there table = record { answer = record { there = there; answer = ap (λ t. get t r.key.at) (sym table ∙ ap (state_at h) (sym (before s.front))) }; layout = tt }
-  legal-update s (Remove k) f h ls there table = record { answer = by (get s.table k.at) refl; layout = tt }
+  legal-update s (Put r) f h ls there table = record { answer = record { there = there; answer = ap (λ t. get t r.key.numbers) (sym table ∙ ap (state_at h) (sym (before s.front))) }; layout = tt }
+  legal-update s (Remove k) f h ls there table = record { answer = by (get s.table k.numbers) refl; layout = tt }
     where
-      by : (o : Option (List ℕ)) → get s.table k.at ≡ o → IsRemoval h caller (Remove k) k.at (s.front + 1) o
+      by : (o : Option (List ℕ)) → get s.table k.numbers ≡ o → IsRemoval h caller (Remove k) k.numbers (s.front + 1) o
       by None p = absurd (true≢false (sym f ∙ ap is_some p))
-      by (Some d) p = record { there = there; answer = sym p ∙ ap (λ t. get t k.at) (sym table ∙ ap (state_at h) (sym (before s.front))) }
+      by (Some d) p = record { there = there; answer = sym p ∙ ap (λ t. get t k.numbers) (sym table ∙ ap (state_at h) (sym (before s.front))) }
 
-  done-step : (s t : State K) (e : ℕ × Box K) (u : Update K) (n : NoteOf) → Same s t → holder s.layout (key_of u) ≡ Some e → IsLawful shape s.layout s.table u n → Finds s.table u → Step shape caller s (request_of u) (done e u n t)
+  done-step : (s t : State K) (e : ℕ × BucketBox K) (u : Update K) (n : LayoutChange) → Same s t → holder s.layout (updated_key u) ≡ Some e → IsLawfulNote shape s.layout s.table u n → Finds s.table u → Step shape caller s (request_of u) (done e u n t)
   unfolding published
   done-step s t e u n same q l f = Moves u n
-      (record { table = ap (λ x. effect x u) same.table; layout = ap (λ (M : Layout K). after_at M e n) same.layout ∙ sym (after-there s.layout (key_of u) e n q); front_is = ap (λ m. m + 1) same.front_is })
+      (record { table = ap (λ x. effect x u) same.table; layout = ap (λ (M : Layout K). after_note_at M e n) same.layout ∙ sym (after-there s.layout (updated_key u) e n q); front_is = ap (λ m. m + 1) same.front_is })
       l
       (λ h ls there table. subst (IsLegal shape h ls caller (request_of u)) (λ i. update_reply u (sym same.front_is i + 1) (sym same.table i)) (legal-update s u f h ls there table))
 
   rooted : (s t : State K) → Same s t → Same s (root t)
   rooted s t same = record { table = same.table; layout = same.layout; front_is = same.front_is }
 
-  queued-step : (s t : State K) (e : ℕ × Box K) (u : Update K) (n : NoteOf) → Same s t → holder s.layout (key_of u) ≡ Some e → IsLawful shape s.layout s.table u n → Finds s.table u → Step shape caller s (request_of u) (done e u n (queued shape t))
+  queued-step : (s t : State K) (e : ℕ × BucketBox K) (u : Update K) (n : LayoutChange) → Same s t → holder s.layout (updated_key u) ≡ Some e → IsLawfulNote shape s.layout s.table u n → Finds s.table u → Step shape caller s (request_of u) (done e u n (queued shape t))
   unfolding queued
   queued-step s t e u n same q l f = by (t.used == shape.slots)
     where
@@ -103,14 +103,14 @@ module _ {K : ℕ} (shape : Shape) (caller : ℕ) where
       by true = done-step s (root t) e u n (rooted s t same) q l f
       by false = done-step s t e u n same q l f
 
-  claimed-step : (s t : State K) (e : ℕ × Box K) (u : Update K) (n : NoteOf) (wanted : ℕ) → Same s t → holder s.layout (key_of u) ≡ Some e → IsLawful shape s.layout s.table u n → Finds s.table u → Step shape caller s (request_of u) (change_claimed shape e u n wanted t)
+  claimed-step : (s t : State K) (e : ℕ × BucketBox K) (u : Update K) (n : LayoutChange) (wanted : ℕ) → Same s t → holder s.layout (updated_key u) ≡ Some e → IsLawfulNote shape s.layout s.table u n → Finds s.table u → Step shape caller s (request_of u) (change_claimed shape e u n wanted t)
   claimed-step s t e u n wanted same q l f = by (nat_lt (free shape t) wanted)
     where
       by : (b : Bool) → Step shape caller s (request_of u) (cond b (refused t (Full (free shape t) wanted)) (done e u n (queued shape t)))
       by true = Stays same (λ h ls g. inr (Full (free shape t) wanted, refl))
       by false = queued-step s t e u n same q l f
 
-  change-step : (s : State K) (e : ℕ × Box K) (u : Update K) (n : NoteOf) → holder s.layout (key_of u) ≡ Some e → IsLawful shape s.layout s.table u n → Finds s.table u → Step shape caller s (request_of u) (change shape s e u n)
+  change-step : (s : State K) (e : ℕ × BucketBox K) (u : Update K) (n : LayoutChange) → holder s.layout (updated_key u) ≡ Some e → IsLawfulNote shape s.layout s.table u n → Finds s.table u → Step shape caller s (request_of u) (change shape s e u n)
   unfolding change claimed
   change-step s e u n q l f = by (nat_lt (free shape s) (need s.layout e u n) && nat_lt 0 s.kept)
     where
@@ -125,28 +125,28 @@ module _ {K : ℕ} (shape : Shape) (caller : ℕ) where
   refused-step : (s : State K) (r : Request K) (why : Refusal) → Step shape caller s r (refused s why)
   refused-step s r why = Stays (itself s) (λ h ls g. inr (why, refl))
 
-  at-step : (s : State K) (u : Update K) (e : ℕ × Box K) → holder s.layout (key_of u) ≡ Some e → Step shape caller s (request_of u) (update_at shape s u e)
-  at-step s (Put r) e q = by (put_note shape s.layout s.table r.key.at) refl
+  at-step : (s : State K) (u : Update K) (e : ℕ × BucketBox K) → holder s.layout (updated_key u) ≡ Some e → Step shape caller s (request_of u) (update_at shape s u e)
+  at-step s (Put r) e q = by (put_note shape s.layout s.table r.key.numbers) refl
     where
-      by : (o : Option NoteOf) → put_note shape s.layout s.table r.key.at ≡ o → Step shape caller s (ask.Put r) (put_noted shape s e (Put r) o)
+      by : (o : Option LayoutChange) → put_note shape s.layout s.table r.key.numbers ≡ o → Step shape caller s (ask.Put r) (put_noted shape s e (Put r) o)
       by None p = refused-step s (ask.Put r) (NoCut (cells s.layout.scales) (boundaries s.layout.scales))
       by (Some n) p = change-step s e (Put r) n q p tt
-  at-step s (Remove k) e q = by (get s.table k.at) refl
+  at-step s (Remove k) e q = by (get s.table k.numbers) refl
     where
-      by : (o : Option (List ℕ)) → get s.table k.at ≡ o → Step shape caller s (ask.Remove k) (remove_found shape s e (Remove k) o)
-      by None p = reading-step s (ask.Remove k) (told.Removed (record { at = s.front; value = get s.table k.at })) (λ h ls g. record {
-        answer = subst (IsRemoval h caller (Remove k) k.at s.front) (sym p) (record { place = g.place; answer = sym p ∙ ap (λ t. get t k.at) (sym g.table) });
+      by : (o : Option (List ℕ)) → get s.table k.numbers ≡ o → Step shape caller s (ask.Remove k) (remove_found shape s e (Remove k) o)
+      by None p = reading-step s (ask.Remove k) (told.Removed (record { at = s.front; value = get s.table k.numbers })) (λ h ls g. record {
+        answer = subst (IsRemoval h caller (Remove k) k.numbers s.front) (sym p) (record { place = g.place; answer = sym p ∙ ap (λ t. get t k.numbers) (sym g.table) });
         layout = tt;
       })
-      by (Some d) p = change-step s e (Remove k) (remove_note shape s e (Remove k) (merges shape s.layout s.table k.at)) q
-          (remove-lawful shape s e k (ap is_some p) (merges shape s.layout s.table k.at) (λ n c. c)) (ap is_some p)
+      by (Some d) p = change-step s e (Remove k) (remove_note shape s e (Remove k) (merges shape s.layout s.table k.numbers)) q
+          (remove-lawful shape s e k (ap is_some p) (merges shape s.layout s.table k.numbers) (λ n c. c)) (ap is_some p)
 
-  updated-step : (s : State K) (u : Update K) → IsState shape s → IsKey K (key_of u) → Step shape caller s (request_of u) (updated shape s u)
+  updated-step : (s : State K) (u : Update K) → IsState shape s → IsKey K (updated_key u) → Step shape caller s (request_of u) (updated shape s u)
   unfolding updated
-  updated-step s u h k = by (holder s.layout (key_of u)) refl
+  updated-step s u h k = by (holder s.layout (updated_key u)) refl
     where
-      by : (o : Option (ℕ × Box K)) → holder s.layout (key_of u) ≡ o → Step shape caller s (request_of u) (update_held shape s u o)
-      by None p = absurd (true≢false (sym (h.stands.sound.covers (key_of u) k) ∙ ap is_some p))
+      by : (o : Option (ℕ × BucketBox K)) → holder s.layout (updated_key u) ≡ o → Step shape caller s (request_of u) (update_held shape s u o)
+      by None p = absurd (true≢false (sym (h.stands.sound.covers (updated_key u) k) ∙ ap is_some p))
       by (Some e) p = at-step s u e p
 
   -- a value of the table is the table's at the front
@@ -158,7 +158,7 @@ module _ {K : ℕ} (shape : Shape) (caller : ℕ) where
   unfolding lone
   lone-step s (ask.Put r) h k = updated-step s (Put r) h k
   lone-step s (ask.Remove d) h k = updated-step s (Remove d) h k
-  lone-step s (ask.Get d) h k = reading-step s (ask.Get d) (told.Got (record { at = s.front; value = get s.table d.at })) (λ i ls g. record { answer = reads s i ls g (λ t. get t d.at); layout = tt })
+  lone-step s (ask.Get d) h k = reading-step s (ask.Get d) (told.Got (record { at = s.front; value = get s.table d.numbers })) (λ i ls g. record { answer = reads s i ls g (λ t. get t d.numbers); layout = tt })
   lone-step s (ask.List q) h k = by (is_lawful q.sides)
     where
       by : (b : Bool) → Step shape caller s (ask.List q) (cond b (answered s (told.Listed (record { at = s.front; value = map record_of (rows s.table q) }))) (refused s BadQuery))
@@ -213,7 +213,7 @@ module _ {K : ℕ} (shape : Shape) (caller : ℕ) where
       each (suc i) q reply e f = m.is_history.legal i q reply e f
 
   -- and one with the update in front, where it made one
-  join-moves : (s : State K) (r : Request K) (rs : List (Request K)) (u : Update K) (n : NoteOf) → Moved s u n (lone shape s r).state → IsLawful shape s.layout s.table u n
+  join-moves : (s : State K) (r : Request K) (rs : List (Request K)) (u : Update K) (n : LayoutChange) → Moved s u n (lone shape s r).state → IsLawfulNote shape s.layout s.table u n
       → ((h : History K) (ls : Layouts K) → entry_at h (s.front + 1) ≡ Some (record { caller = caller; update = u }) → state_at h s.front ≡ s.table → IsLegal shape h ls caller r (lone shape s r).reply)
       → MakesHistory shape caller (lone shape s r).state rs → MakesHistory shape caller s (r ∷ rs)
   unfolding answers afterwards
@@ -241,7 +241,7 @@ module _ {K : ℕ} (shape : Shape) (caller : ℕ) where
       table : m.history.base ≡ effect s.table u
       table = m.is_history.base ∙ moved.table
 
-      layout : m.layouts.first ≡ after s.layout (key_of u) n
+      layout : m.layouts.first ≡ after_note s.layout (updated_key u) n
       layout = m.is_history.first ∙ moved.layout
 
       whole : History K

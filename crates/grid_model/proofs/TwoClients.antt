@@ -15,7 +15,7 @@ use Rattle.grid_model.specs.Sessions.{Explains, Exchange, Rises, lines_by, excha
 
 -- client 2 puts, and client 1 gets another key
 abbrev script : List (Line 2)
-script = record { client = 2; request = ask.Put (record { key = record { at = 1 ∷ 1 ∷ [] }; value = 10 ∷ [] }) } ∷ record { client = 1; request = ask.Get (record { at = 9 ∷ 9 ∷ [] }) } ∷ []
+script = record { client = 2; request = ask.Put (record { key = record { numbers = 1 ∷ 1 ∷ [] }; value = 10 ∷ [] }) } ∷ record { client = 1; request = ask.Get (record { numbers = 9 ∷ 9 ∷ [] }) } ∷ []
 
 read : lines 2 (codes "client 2\nput 1,1 0a\nclient 1\nget 9,9\n") ≡ Ok script
 unfolding computing
@@ -42,10 +42,10 @@ alone x zero (suc j) p q a b l e f g h = absurd (true≢false (sym (ap is_some f
 alone x (suc i) j p q a b l e f g h = absurd (true≢false (sym (ap is_some e)))
 
 abbrev get-told : ℕ → Exchange 2
-get-told got = record { client = 1; request = ask.Get (record { at = 9 ∷ 9 ∷ [] }); reply = told.Got (record { at = got; value = None }) }
+get-told got = record { client = 1; request = ask.Get (record { numbers = 9 ∷ 9 ∷ [] }); reply = told.Got (record { at = got; value = None }) }
 
 abbrev put-told : ℕ → Exchange 2
-put-told put = record { client = 2; request = ask.Put (record { key = record { at = 1 ∷ 1 ∷ [] }; value = 10 ∷ [] }); reply = told.Put (record { at = put; value = None }) }
+put-told put = record { client = 2; request = ask.Put (record { key = record { numbers = 1 ∷ 1 ∷ [] }; value = 10 ∷ [] }); reply = told.Put (record { at = put; value = None }) }
 
 -- the history that was told has the put alone
 abbrev history : ℕ → History 2

@@ -33,9 +33,9 @@ IsRemoval h caller u k at (Some d) = IsUpdate h caller u k at (Some d)
 
 -- a reply is a plain table's answer to a caller's request at its place in the history; a refusal is none
 abbrev pub IsAnswer : {K : ℕ} → History K → ℕ → Request K → Reply K → Type 0
-IsAnswer h caller (ask.Put r) (told.Put a) = IsUpdate h caller (Put r) r.key.at a.at a.value
-IsAnswer h caller (ask.Remove k) (told.Removed a) = IsRemoval h caller (Remove k) k.at a.at a.value
-IsAnswer h caller (ask.Get k) (told.Got a) = IsReading h a.at a.value (λ t. get t k.at)
+IsAnswer h caller (ask.Put r) (told.Put a) = IsUpdate h caller (Put r) r.key.numbers a.at a.value
+IsAnswer h caller (ask.Remove k) (told.Removed a) = IsRemoval h caller (Remove k) k.numbers a.at a.value
+IsAnswer h caller (ask.Get k) (told.Got a) = IsReading h a.at a.value (λ t. get t k.numbers)
 IsAnswer h caller (ask.List q) (told.Listed a) = IsReading h a.at a.value (λ t. map record_of (rows t q))
 IsAnswer h caller (ask.Count q) (told.Counted a) = IsReading h a.at a.value (λ t. length (rows t q))
 IsAnswer h caller ask.Stat (told.Stood a) = IsReading h a.at a.value.records (λ t. length t)

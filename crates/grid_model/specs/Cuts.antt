@@ -3,11 +3,11 @@ use Rattle.std.specs.Prelude.{ℕ, ◌+◌, ◌-◌, ◌%◌, List, [], ◌∷�
 use Rattle.std.specs.Option.{option_map}
 use Rattle.grid_types.specs.declared.region.Region.{Region}
 use Rattle.grid_types.specs.declared.shape.Shape.{Shape}
-use Rattle.grid_types.specs.declared.note.Cut.{Cut}
+use Rattle.grid_types.specs.declared.layout_change.Cut.{Cut}
 use Rattle.grid_model.specs.Lists.{below, least, or_else, first_some, product}
 use Rattle.grid_model.specs.Scales.{scale_of}
 use Rattle.grid_model.specs.Cells.{dims}
-use Rattle.grid_model.specs.Layouts.{Box}
+use Rattle.grid_model.specs.Layouts.{BucketBox}
 
 -- the keys below a boundary in an attribute
 abbrev pub left_part : List (List ℕ) → ℕ → ℕ → List (List ℕ)
@@ -94,5 +94,5 @@ abbrev pub refinements : Shape → List (List ℕ) → ℕ → List (List ℕ) �
 refinements shape scales turn keys = map (refinement shape scales keys) (cycle (length scales) turn)
 
 -- the cut of a box whose keys, with the new one, are too many: at the best existing boundary, else at the first refinement
-unfoldable pub cut : {K : ℕ} → Shape → List (List ℕ) → Box K → List (List ℕ) → Option Cut
+unfoldable pub cut : {K : ℕ} → Shape → List (List ℕ) → BucketBox K → List (List ℕ) → Option Cut
 cut shape scales b keys = or_else (option_map old_cut (best_existing scales b.region keys)) (first_some (refinements shape scales b.turn keys))

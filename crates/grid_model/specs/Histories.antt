@@ -2,10 +2,10 @@
 use Rattle.std.specs.Prelude.{◌≡◌, ℕ, ◌+◌, ◌-◌, ◌≤◌, List, if◌then◌else◌, take, length, fold, zip, Option, Some, None, slice_get, nat_lt}
 use Rattle.grid_types.specs.declared.update.Entry.{Entry}
 use Rattle.grid_types.specs.declared.shape.Shape.{Shape}
-use Rattle.grid_types.specs.declared.note.NoteOf.{NoteOf}
+use Rattle.grid_types.specs.declared.layout_change.LayoutChange.{LayoutChange}
 use Rattle.grid_model.specs.Tables.{Table, effect}
 use Rattle.grid_model.specs.Layouts.{Layout}
-use Rattle.grid_model.specs.Notes.{IsLawful, after, key_of}
+use Rattle.grid_model.specs.Notes.{IsLawfulNote, after_note, updated_key}
 
 -- a history: the number that it begins with, the table that stood there, and the entries, each an update with its caller
 pub record History (K : ℕ) : Type 0 where
@@ -34,28 +34,28 @@ entry_at h n = if nat_lt h.from n then slice_get h.entries (n - h.from - 1) else
 abbrev pub entry_effect : {K : ℕ} → Table → Entry K → Table
 entry_effect t e = effect t e.update
 
--- the table at a place: the base table after the updates up to there
+-- the table at a place: the base table after_note the updates up to there
 unfoldable pub state_at : {K : ℕ} → History K → ℕ → Table
 state_at h n = fold entry_effect h.base (until h n)
 
 -- the layouts of a history: the one that it begins with, and the note of each entry
 pub record Layouts (K : ℕ) : Type 0 where
   pub first : Layout K
-  pub notes : List NoteOf
+  pub notes : List LayoutChange
 
 -- what an entry with its note makes of a layout
-abbrev pub noted_effect : {K : ℕ} → Layout K → Entry K × NoteOf → Layout K
-noted_effect L e = after L (key_of e.0.update) e.1
+abbrev pub layout_effect : {K : ℕ} → Layout K → Entry K × LayoutChange → Layout K
+layout_effect L e = after_note L (updated_key e.0.update) e.1
 
--- the layout at a place: the first one after the notes up to there
+-- the layout at a place: the first one after_note the notes up to there
 unfoldable pub layout_at : {K : ℕ} → History K → Layouts K → ℕ → Layout K
-layout_at h ls n = fold noted_effect ls.first (zip (until h n) ls.notes)
+layout_at h ls n = fold layout_effect ls.first (zip (until h n) ls.notes)
 
 -- each entry has a note, which is lawful where it stands
 pub record IsNoted {K : ℕ} (shape : Shape) (h : History K) (ls : Layouts K) : Type 0 where
   pub each : length ls.notes ≡ length h.entries
-  pub lawful : (i : ℕ) (e : Entry K) (n : NoteOf) → slice_get h.entries i ≡ Some e → slice_get ls.notes i ≡ Some n
-      → IsLawful shape (layout_at h ls (h.from + i)) (state_at h (h.from + i)) e.update n
+  pub lawful : (i : ℕ) (e : Entry K) (n : LayoutChange) → slice_get h.entries i ≡ Some e → slice_get ls.notes i ≡ Some n
+      → IsLawfulNote shape (layout_at h ls (h.from + i)) (state_at h (h.from + i)) e.update n
 
 -- a history goes on as another one: it is a beginning of it
 pub record GoesOn {K : ℕ} (h later : History K) : Type 0 where

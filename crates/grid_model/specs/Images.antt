@@ -5,20 +5,20 @@ use Rattle.std.specs.List.{list_any}
 use Rattle.std.specs.Option.{option_map_or}
 use Rattle.grid_types.specs.declared.shape.Shape.{Shape}
 use Rattle.grid_types.specs.declared.update.Record.{Record}
-use Rattle.grid_types.specs.declared.note.Noted.{Noted}
+use Rattle.grid_types.specs.declared.layout_change.LoggedUpdate.{LoggedUpdate}
 use Rattle.grid_types.specs.Keys.{IsKey}
 use Rattle.grid_types.specs.Regions.{contains, IsRegion}
 use Rattle.grid_types.specs.Pages.{page_of}
 use Rattle.grid_types.specs.Shapes.{is_shape, file_pages, area_pages, header_page, table_page, data_page}
 use Rattle.grid_types.specs.Shapes as places
 use Rattle.grid_model.specs.Lists.{below, is_among}
-use Rattle.grid_model.specs.Tables.{Table, IsTable, effect, with_data, entries_of}
+use Rattle.grid_model.specs.Tables.{Table, IsTable, effect, with_data, pairs_of}
 use Rattle.grid_model.specs.Scales.{scale_of}
 use Rattle.grid_model.specs.Cells.{parts}
-use Rattle.grid_model.specs.Layouts.{Box, Layout, box, holder, inside, directory_part, Sound}
-use Rattle.grid_model.specs.Notes.{key_of, after, IsLawful}
+use Rattle.grid_model.specs.Layouts.{BucketBox, Layout, box, holder, records_inside, directory_part, IsSound}
+use Rattle.grid_model.specs.Notes.{updated_key, after_note, IsLawfulNote}
 use Rattle.grid_model.specs.Lone.{State, opened, free, renewed, published, record_of, how_many}
-use Rattle.grid_model.specs.Spellings.{shape_bytes, RootFields, root_bytes, scale_page, list_page, bucket_table_page, directory_page, bucket_page, gate_page, Batch, slot_page}
+use Rattle.grid_model.specs.Spellings.{shape_bytes, RootFields, root_bytes, scale_spelling, list_spelling, bucket_table_spelling, directory_spelling, bucket_spelling, gate_spelling, LoggedBatch, slot_spelling}
 use Rattle.grid_model.specs.Lawful.{IsData, IsRootOn, Area, IsAreaOf, IsBatch, nowhere}
 
 -- an image is a file of a shape with K attributes: both header pages begin with the shape, and all pages are there
@@ -53,20 +53,20 @@ abbrev pub half_of_scale : ℕ → List ℕ → List ℕ
 half_of_scale half scale = if half == 0 then take 500 scale else drop 500 scale
 
 -- page i of a table area that says this: two pages for each scale, then the list of the directory, then the bucket table
-abbrev pub area_page : ℕ → Area → ℕ → List ℕ
-area_page root a i =
-    if nat_lt i 8 then scale_page root i (half_of_scale (i % 2) (scale_of a.scales (i / 2)))
-    else (if i == 8 then list_page root i a.parts else bucket_table_page root i (take 1000 (drop (1000 * (i - 9)) a.table)))
+abbrev pub area_spelling : ℕ → Area → ℕ → List ℕ
+area_spelling root a i =
+    if nat_lt i 8 then scale_spelling root i (half_of_scale (i % 2) (scale_of a.scales (i / 2)))
+    else (if i == 8 then list_spelling root i a.parts else bucket_table_spelling root i (take 1000 (drop (1000 * (i - 9)) a.table)))
 
 -- the table area of a root is spelled: it is lawful for the root, and each of its pages says its part of it
 pub record HasArea (s : Shape) (image : List ℕ) (r : RootFields) (a : Area) : Type 0 where
   pub lawful : IsAreaOf s r a
-  pub pages : (i : ℕ) → i < area_pages s → page_of (table_page s (header_page r.number) i) image ≡ area_page r.number a i
+  pub pages : (i : ℕ) → i < area_pages s → page_of (table_page s (header_page r.number) i) image ≡ area_spelling r.number a i
 
 -- the gate page of a half is spelled, with these gates
 pub record HasGatesOf (s : Shape) (image : List ℕ) (half : ℕ) (gates : List ℕ) : Type 0 where
   pub count : length gates ≡ s.slots
-  pub page : page_of (places.gate_page s half) image ≡ gate_page half gates
+  pub page : page_of (places.gate_page s half) image ≡ gate_spelling half gates
 
 -- the gate pages of both halves are spelled, with these gates
 pub record HasGates (s : Shape) (image : List ℕ) (gates : ℕ → List ℕ) : Type 0 where
@@ -74,9 +74,9 @@ pub record HasGates (s : Shape) (image : List ℕ) (gates : ℕ → List ℕ) : 
   pub second : HasGatesOf s image 1 (gates 1)
 
 -- a slot page spells a batch
-pub record SpellsBatch {K : ℕ} (bytes : List ℕ) (b : Batch K) : Type 0 where
+pub record SpellsBatch {K : ℕ} (bytes : List ℕ) (b : LoggedBatch K) : Type 0 where
   pub lawful : IsBatch b
-  pub spelled : bytes ≡ slot_page b
+  pub spelled : bytes ≡ slot_spelling b
 
 -- the open slots of a half, in order: those whose gate is 1
 abbrev pub open_slots_of : List ℕ → ℕ → List (ℕ × ℕ)
@@ -87,27 +87,27 @@ abbrev pub open_slots : (ℕ → List ℕ) → List (ℕ × ℕ)
 open_slots gates = open_slots_of (gates 0) 0 ++ open_slots_of (gates 1) 1
 
 -- the slots spell these batches, each its own
-pub record HasBatches {K : ℕ} (s : Shape) (image : List ℕ) (slots : List (ℕ × ℕ)) (batches : List (Batch K)) : Type 0 where
+pub record HasBatches {K : ℕ} (s : Shape) (image : List ℕ) (slots : List (ℕ × ℕ)) (batches : List (LoggedBatch K)) : Type 0 where
   pub count : length batches ≡ length slots
-  pub each : (i : ℕ) (slot : ℕ × ℕ) (b : Batch K) → slice_get slots i ≡ Some slot → slice_get batches i ≡ Some b → SpellsBatch (page_of (places.slot_page s slot.0 slot.1) image) b
+  pub each : (i : ℕ) (slot : ℕ × ℕ) (b : LoggedBatch K) → slice_get slots i ≡ Some slot → slice_get batches i ≡ Some b → SpellsBatch (page_of (places.slot_page s slot.0 slot.1) image) b
 
 -- the batches of a session
-abbrev pub of_session : {K : ℕ} → ℕ → List (Batch K) → List (Batch K)
+abbrev pub of_session : {K : ℕ} → ℕ → List (LoggedBatch K) → List (LoggedBatch K)
 of_session session batches = filter (λ b. b.session == session) batches
 
 -- the batch that joins a place: the first whose first place is the next one
-abbrev pub joining : {K : ℕ} → List (Batch K) → ℕ → Option (Batch K)
+abbrev pub joining : {K : ℕ} → List (LoggedBatch K) → ℕ → Option (LoggedBatch K)
 joining batches place = lists.find (λ b. b.first == place + 1) batches
 
 -- from a place on, these batches join without a gap up to another place, where no batch joins
-abbrev pub Join : {K : ℕ} → List (Batch K) → ℕ → List (Batch K) → ℕ → Type 0
+abbrev pub Join : {K : ℕ} → List (LoggedBatch K) → ℕ → List (LoggedBatch K) → ℕ → Type 0
 Join batches place [] n = (n ≡ place) × (joining batches place ≡ None)
 Join batches place (b ∷ bs) n = (joining batches place ≡ Some b) × Join batches (place + length b.updates) bs n
 
 -- what a bucket page says: its number, its box and its records
 pub record BucketOf (K : ℕ) : Type 0 where
   pub number : ℕ
-  pub box : Box K
+  pub box : BucketBox K
   pub rows : List (Record K)
 
 -- a bucket is lawful: it has at most its capacity of records, which ascend and lie in its region
@@ -116,15 +116,15 @@ pub record IsBucketOf {K : ℕ} (s : Shape) (b : BucketOf K) : Type 0 where
   pub turn : b.box.turn < K
   pub region : IsRegion K b.box.region
   pub count : length b.rows ≤ s.capacity
-  pub ascending : IsTable (entries_of b.rows)
-  pub keys : All (λ r. IsKey K r.key.at) b.rows
-  pub inside : All (λ r. IsTrue (contains b.box.region r.key.at)) b.rows
+  pub ascending : IsTable (pairs_of b.rows)
+  pub keys : All (λ r. IsKey K r.key.numbers) b.rows
+  pub inside : All (λ r. IsTrue (contains b.box.region r.key.numbers)) b.rows
   pub values : All (λ r. IsData r.value) b.rows
 
 -- a data page spells a bucket
 pub record SpellsBucket {K : ℕ} (s : Shape) (bytes : List ℕ) (b : BucketOf K) : Type 0 where
   pub lawful : IsBucketOf s b
-  pub spelled : bytes ≡ bucket_page K b.number b.box.turn b.box.region b.rows
+  pub spelled : bytes ≡ bucket_spelling K b.number b.box.turn b.box.region b.rows
 
 -- the bucket numbers that a table has
 abbrev pub numbers_of : List ℕ → List ℕ
@@ -141,7 +141,7 @@ pub record HasBuckets {K : ℕ} (s : Shape) (image : List ℕ) (table : List ℕ
 
 -- the records of buckets are a table's, where no key stands on two of them
 pub record AreRecordsOf {K : ℕ} (buckets : List (BucketOf K)) (t : Table) : Type 0 where
-  pub all : fold (λ u r. with_data u r.key.at r.value) [] (flat_map (λ b. b.rows) buckets) ≡ t
+  pub all : fold (λ u r. with_data u r.key.numbers r.value) [] (flat_map (λ b. b.rows) buckets) ≡ t
   pub once : sum (map (λ b. length b.rows) buckets) ≡ length t
 
 -- what is found in an image: the shape, the newest root with its table area, the gates, the batches under open gates, those that are taken, and the root's buckets with their table
@@ -150,18 +150,18 @@ pub record Found (K : ℕ) : Type 0 where
   pub root : RootFields
   pub area : Area
   pub gates : ℕ → List ℕ
-  pub batches : List (Batch K)
-  pub taken : List (Batch K)
+  pub batches : List (LoggedBatch K)
+  pub taken : List (LoggedBatch K)
   pub buckets : List (BucketOf K)
   pub table : Table
 
 -- the updates that are taken, with their notes
-abbrev pub updates_taken : {K : ℕ} → Found K → List (Noted K)
+abbrev pub updates_taken : {K : ℕ} → Found K → List (LoggedUpdate K)
 updates_taken f = flat_map (λ b. b.updates) f.taken
 
 -- an update's effect, whatever its note
-abbrev pub noted_update : {K : ℕ} → Table → Noted K → Table
-noted_update t u = effect t u.update
+abbrev pub logged_effect : {K : ℕ} → Table → LoggedUpdate K → Table
+logged_effect t u = effect t u.update
 
 -- this is found in an image: shape, newest root, table area and gates are spelled, so is the batch under each open gate, and the batches of the root's session that join the root's front are taken up to place n
 pub record IsFound {K : ℕ} (image : List ℕ) (f : Found K) (n : ℕ) : Type 0 where
@@ -177,39 +177,39 @@ pub record Reads {K : ℕ} (image : List ℕ) (f : Found K) (n : ℕ) (t : Table
   pub found : IsFound image f n
   pub buckets : HasBuckets f.shape image f.area.table f.buckets
   pub records : AreRecordsOf f.buckets f.table
-  pub table : t ≡ fold noted_update f.table (updates_taken f)
+  pub table : t ≡ fold logged_effect f.table (updates_taken f)
 
 -- pages spell a layout and a table: each directory part has the numbers of the boxes that have its cells' lowest keys, and each number's page has its box and the records of its region
 pub record PagesSpell {K : ℕ} (s : Shape) (image : List ℕ) (parts_at table : List ℕ) (L : Layout K) (t : Table) : Type 0 where
   pub count : length parts_at ≡ parts L.scales
-  pub directory : (p : ℕ) → p < parts L.scales → entry_page s image parts_at p ≡ directory_page p (directory_part L p)
+  pub directory : (p : ℕ) → p < parts L.scales → entry_page s image parts_at p ≡ directory_spelling p (directory_part L p)
   pub numbers : map (λ e. e.0) L.boxes ≡ numbers_of table
-  pub buckets : (m : ℕ) (b : Box K) → box L m ≡ Some b → SpellsBucket s (entry_page s image table m) (record { number = m; box = b; rows = map record_of (inside t b.region) })
+  pub buckets : (m : ℕ) (b : BucketBox K) → box L m ≡ Some b → SpellsBucket s (entry_page s image table m) (record { number = m; box = b; rows = map record_of (records_inside t b.region) })
 
 -- the root's pages spell a layout that is sound for the root's table, and the root has its number of records
 pub record RootSpells {K : ℕ} (image : List ℕ) (f : Found K) (L : Layout K) : Type 0 where
   pub scales : L.scales ≡ f.area.scales
   pub pages : PagesSpell f.shape image f.area.parts f.area.table L f.table
-  pub sound : Sound f.shape L f.table
+  pub sound : IsSound f.shape L f.table
   pub records : f.root.records ≡ length f.table
 
--- the layout after some updates with their notes
-unfoldable pub layout_after : {K : ℕ} → Layout K → List (Noted K) → Layout K
-layout_after L us = fold (λ M u. after M (key_of u.update) u.note) L us
+-- the layout after_note some updates with their notes
+unfoldable pub layout_after : {K : ℕ} → Layout K → List (LoggedUpdate K) → Layout K
+layout_after L us = fold (λ M u. after_note M (updated_key u.update) u.note) L us
 
--- the state after an update that finds its box
-abbrev pub redo : {K : ℕ} → State K → Noted K → State K
-redo s u = option_map_or (λ e. published e u.update u.note s) (holder s.layout (key_of u.update)) s
+-- the state after_note an update that finds its box
+abbrev pub redo : {K : ℕ} → State K → LoggedUpdate K → State K
+redo s u = option_map_or (λ e. published e u.update u.note s) (holder s.layout (updated_key u.update)) s
 
 -- an update may be taken in a state: its note is lawful, and its new pages are among the pages that neither the root nor the layout has
-pub record MayTake {K : ℕ} (shape : Shape) (s : State K) (u : Noted K) : Type 0 where
-  pub lawful : IsLawful shape s.layout s.table u.update u.note
-  pub pages : (e : ℕ × Box K) → holder s.layout (key_of u.update) ≡ Some e → how_many (renewed s.layout e u.note) ≤ free shape s
+pub record MayRedo {K : ℕ} (shape : Shape) (s : State K) (u : LoggedUpdate K) : Type 0 where
+  pub lawful : IsLawfulNote shape s.layout s.table u.update u.note
+  pub pages : (e : ℕ × BucketBox K) → holder s.layout (updated_key u.update) ≡ Some e → how_many (renewed s.layout e u.note) ≤ free shape s
 
--- each update may be taken, one after the other
-abbrev pub MayTakeAll : {K : ℕ} → Shape → State K → List (Noted K) → Type 0
-MayTakeAll shape s [] = ⊤
-MayTakeAll shape s (u ∷ us) = MayTake shape s u × MayTakeAll shape (redo s u) us
+-- each update may be taken, one after_note the other
+abbrev pub MayRedoAll : {K : ℕ} → Shape → State K → List (LoggedUpdate K) → Type 0
+MayRedoAll shape s [] = ⊤
+MayRedoAll shape s (u ∷ us) = MayRedo shape s u × MayRedoAll shape (redo s u) us
 
 -- the gates up to the last one that is not 0
 abbrev pub last_gate : List ℕ → ℕ
@@ -225,10 +225,10 @@ pub record Stands (K : ℕ) (image : List ℕ) (n : ℕ) (t : Table) : Type 0 wh
   pub reads : Reads image found n t
   pub layout : Layout K
   pub root : RootSpells image found layout
-  pub written : List (Batch K)
+  pub written : List (LoggedBatch K)
   pub slots : HasBatches found.shape image (written_slots found.gates) written
   pub sessions : All (λ b. b.session ≤ found.root.session) written
-  pub updates : MayTakeAll found.shape (opened found.table layout found.root.front) (updates_taken found)
+  pub updates : MayRedoAll found.shape (opened found.table layout found.root.front) (updates_taken found)
 
 -- an image has a layout: the one that the root's pages spell, changed by the notes of the updates that are taken
 pub record IsShaped {K : ℕ} (image : List ℕ) (n : ℕ) (L : Layout K) : Type 0 where
@@ -240,7 +240,7 @@ pub record IsShaped {K : ℕ} (image : List ℕ) (n : ℕ) (L : Layout K) : Type
 
 -- a directory page is the expected one of a part: it is spelled, and each cell names a number that the table has
 pub record IsExpectedPart (bytes : List ℕ) (part n : ℕ) (table cells : List ℕ) : Type 0 where
-  pub spelled : bytes ≡ directory_page part cells
+  pub spelled : bytes ≡ directory_spelling part cells
   pub count : length cells ≡ n
   pub named : All (λ m. IsTrue (is_among (numbers_of table) m)) cells
 

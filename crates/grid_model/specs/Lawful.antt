@@ -3,14 +3,14 @@ use Rattle.std.specs.Prelude.{◌≡◌, ℕ, ◌+◌, ◌*◌, ◌/◌, ◌%◌
 use Rattle.grid_types.specs.declared.shape.Shape.{Shape}
 use Rattle.grid_types.specs.declared.update.Update.{Update}
 use Rattle.grid_types.specs.declared.update.Update.TheVariants.{Put, Remove}
-use Rattle.grid_types.specs.declared.note.NoteOf.{NoteOf}
-use Rattle.grid_types.specs.declared.note.NoteOf.TheVariants as note
-use Rattle.grid_types.specs.declared.note.Noted.{Noted}
+use Rattle.grid_types.specs.declared.layout_change.LayoutChange.{LayoutChange}
+use Rattle.grid_types.specs.declared.layout_change.LayoutChange.TheVariants as note
+use Rattle.grid_types.specs.declared.layout_change.LoggedUpdate.{LoggedUpdate}
 use Rattle.grid_types.specs.Keys.{IsKey}
 use Rattle.grid_model.specs.Lists.{product, AreDistinct}
 use Rattle.grid_model.specs.Scales.{is_scale}
-use Rattle.grid_model.specs.Notes.{key_of}
-use Rattle.grid_model.specs.Spellings.{RootFields, Batch, data_of}
+use Rattle.grid_model.specs.Notes.{updated_key}
+use Rattle.grid_model.specs.Spellings.{RootFields, LoggedBatch, update_data}
 
 -- data is at most 40 bytes
 abbrev pub IsData : List ℕ → Type 0
@@ -60,11 +60,11 @@ pub record IsAreaOf (shape : Shape) (r : RootFields) (a : Area) : Type 0 where
 
 -- an update has a key of K numbers, and data of at most 40 bytes
 pub record IsUpdateOf (K : ℕ) (u : Update K) : Type 0 where
-  pub key : IsKey K (key_of u)
-  pub value : IsData (data_of u)
+  pub key : IsKey K (updated_key u)
+  pub value : IsData (update_data u)
 
 -- a note stands with an update where it has a spelling: cuts with puts, merges with removes, of numbers in their ranges
-abbrev pub StandsWith : {K : ℕ} → Update K → NoteOf → Type 0
+abbrev pub StandsWith : {K : ℕ} → Update K → LayoutChange → Type 0
 StandsWith u note.Plain = ⊤
 StandsWith {K} (Put r) (note.Cut c right) = (c.attribute < K) × (c.value < 2 ^ 64) × (right < 2 ^ 32)
 StandsWith (Remove k) (note.Cut c right) = ⊥
@@ -72,15 +72,15 @@ StandsWith (Put r) (note.Merge m) = ⊥
 StandsWith (Remove k) (note.Merge m) = m < 2 ^ 32
 
 -- an update with its note has a spelling
-pub record IsNotedUpdate {K : ℕ} (u : Noted K) : Type 0 where
+pub record IsLoggedUpdate {K : ℕ} (u : LoggedUpdate K) : Type 0 where
   pub update : IsUpdateOf K u.update
   pub note : StandsWith u.update u.note
 
 -- a batch has a spelling: it has 1 to 16 updates, each with a spelling, a session of 64 bits, and a first place from 1 to 2 ^ 63 - 16, so that each place is below 2 ^ 63
-pub record IsBatch {K : ℕ} (b : Batch K) : Type 0 where
+pub record IsBatch {K : ℕ} (b : LoggedBatch K) : Type 0 where
   pub some : 1 ≤ length b.updates
   pub few : length b.updates ≤ 16
   pub session : b.session < 2 ^ 64
   pub first : 1 ≤ b.first
   pub last : b.first ≤ 9223372036854775792
-  pub updates : All IsNotedUpdate b.updates
+  pub updates : All IsLoggedUpdate b.updates

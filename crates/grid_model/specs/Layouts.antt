@@ -14,25 +14,25 @@ use Rattle.grid_model.specs.Scales.{scale_of, is_scale, is_drawn, top}
 use Rattle.grid_model.specs.Cells.{cells, all_cells, corner}
 
 -- a bucket's box: the region of its keys, and its turn, the attribute that is tried first when it is cut at a new boundary
-pub record Box (K : ℕ) : Type 0 where
+pub record BucketBox (K : ℕ) : Type 0 where
   pub region : Region K
   pub turn : ℕ
 
 -- a scale for each attribute, and a finite map from bucket numbers to boxes: the list of its entries, numbers ascending
 pub record Layout (K : ℕ) : Type 0 where
   pub scales : List (List ℕ)
-  pub boxes : List (ℕ × Box K)
+  pub boxes : List (ℕ × BucketBox K)
 
 -- the records of a region
-abbrev pub inside : {K : ℕ} → Table → Region K → Table
-inside t r = where_key key_cmp (contains r) t
+abbrev pub records_inside : {K : ℕ} → Table → Region K → Table
+records_inside t r = where_key key_cmp (contains r) t
 
 -- the box that has a number
-abbrev pub box : {K : ℕ} → Layout K → ℕ → Option (Box K)
+abbrev pub box : {K : ℕ} → Layout K → ℕ → Option (BucketBox K)
 box L n = find nat_cmp n L.boxes
 
 -- the box that has a key, with its number
-unfoldable pub holder : {K : ℕ} → Layout K → List ℕ → Option (ℕ × Box K)
+unfoldable pub holder : {K : ℕ} → Layout K → List ℕ → Option (ℕ × BucketBox K)
 holder L k = lists.find (λ e. contains e.1.region k) L.boxes
 
 -- the least number that no box has
@@ -48,19 +48,19 @@ unfoldable pub new_layout : (K : ℕ) → Layout K
 new_layout K = record { scales = replicate K []; boxes = (0, record { region = whole K; turn = 0 }) ∷ [] }
 
 -- each box has P
-abbrev pub EachBox : {K : ℕ} → Layout K → (ℕ → Box K → Type 0) → Type 0
-EachBox {K} L P = (n : ℕ) (b : Box K) → box L n ≡ Some b → P n b
+abbrev pub EachBox : {K : ℕ} → Layout K → (ℕ → BucketBox K → Type 0) → Type 0
+EachBox {K} L P = (n : ℕ) (b : BucketBox K) → box L n ≡ Some b → P n b
 
 -- no key is in two boxes
 abbrev pub Apart : {K : ℕ} → Layout K → Type 0
-Apart {K} L = (k : List ℕ) (n m : ℕ) (b c : Box K) → box L n ≡ Some b → box L m ≡ Some c → IsTrue (contains b.region k) → IsTrue (contains c.region k) → n ≡ m
+Apart {K} L = (k : List ℕ) (n m : ℕ) (b c : BucketBox K) → box L n ≡ Some b → box L m ≡ Some c → IsTrue (contains b.region k) → IsTrue (contains c.region k) → n ≡ m
 
 -- each bound of a box is an end of an interval
-abbrev pub IsDrawn : {K : ℕ} → List (List ℕ) → Box K → Type 0
+abbrev pub IsDrawn : {K : ℕ} → List (List ℕ) → BucketBox K → Type 0
 IsDrawn {K} scales b = (a : ℕ) → a < K → IsTrue (is_drawn (scale_of scales a) (slice_index b.region.lo a) (slice_index b.region.hi a))
 
 -- a layout is sound for a table: its scales ascend and keep the limits, each key lies in exactly one box, each bound is an end of an interval, each box has room for its records, and the numbers are below the number of pages
-pub record Sound {K : ℕ} (shape : Shape) (L : Layout K) (t : Table) : Type 0 where
+pub record IsSound {K : ℕ} (shape : Shape) (L : Layout K) (t : Table) : Type 0 where
   pub attributes : length L.scales ≡ K
   pub scales : (a : ℕ) → a < K → IsTrue (is_scale (scale_of L.scales a))
   pub few_boundaries : (a : ℕ) → a < K → length (scale_of L.scales a) ≤ shape.boundaries
@@ -71,7 +71,7 @@ pub record Sound {K : ℕ} (shape : Shape) (L : Layout K) (t : Table) : Type 0 w
   pub drawn : EachBox L (λ n b. IsDrawn L.scales b)
   pub covers : (k : List ℕ) → IsKey K k → IsSome (holder L k)
   pub apart : Apart L
-  pub room : EachBox L (λ n b. length (inside t b.region) ≤ shape.capacity)
+  pub room : EachBox L (λ n b. length (records_inside t b.region) ≤ shape.capacity)
   pub below_pages : EachBox L (λ n b. n < shape.pages)
 
 -- the number of the box that has a key, or 0 where none has it

@@ -5,13 +5,13 @@ use Rattle.grid_types.specs.declared.request.Request.{Request}
 use Rattle.grid_types.specs.declared.request.Request.TheVariants as ask
 use Rattle.grid_types.specs.declared.request.Reply.{Reply}
 use Rattle.grid_types.specs.declared.update.Update.{Update}
-use Rattle.grid_types.specs.declared.note.NoteOf.{NoteOf}
+use Rattle.grid_types.specs.declared.layout_change.LayoutChange.{LayoutChange}
 use Rattle.grid_types.specs.Keys.{IsKey}
 use Rattle.grid_types.specs.Shapes.{is_shape}
 use Rattle.grid_model.specs.Lists.{is_among, AreDistinct}
 use Rattle.grid_model.specs.Cells.{parts}
 use Rattle.grid_model.specs.Tables.{Table}
-use Rattle.grid_model.specs.Layouts.{Box, Layout, box}
+use Rattle.grid_model.specs.Layouts.{BucketBox, Layout, box}
 use Rattle.grid_model.specs.LayoutLaws.{StandsOver, Fits}
 use Rattle.grid_model.specs.Histories.{History, Layouts, front, state_at, layout_at, IsNoted}
 use Rattle.grid_model.specs.Answers.{IsLegal, IsRefusal}
@@ -28,9 +28,9 @@ pub record IsState {K : ℕ} (shape : Shape) (s : State K) : Type 0 where
 
 -- a request about a key names one of K numbers
 abbrev pub HasKey : {K : ℕ} → Request K → Type 0
-HasKey {K} (ask.Put r) = IsKey K r.key.at
-HasKey {K} (ask.Remove k) = IsKey K k.at
-HasKey {K} (ask.Get k) = IsKey K k.at
+HasKey {K} (ask.Put r) = IsKey K r.key.numbers
+HasKey {K} (ask.Remove k) = IsKey K k.numbers
+HasKey {K} (ask.Get k) = IsKey K k.numbers
 HasKey (ask.List q) = ⊤
 HasKey (ask.Count q) = ⊤
 HasKey ask.Stat = ⊤
@@ -60,4 +60,4 @@ pub record IsLegalAlone (K : ℕ) : Type 0 where
   pub leaves : (shape : Shape) (s : State K) (r : Request K) → IsState shape s → HasKey r → IsState shape (lone shape s r).state
   pub legal : (shape : Shape) (caller : ℕ) (s : State K) (requests : List (Request K)) → IsState shape s → ((i : ℕ) (r : Request K) → slice_get requests i ≡ Some r → HasKey r) → MakesHistory shape caller s requests
   pub free : (shape : Shape) (s : State K) → IsState shape s → free shape s + length s.layout.boxes + parts s.layout.scales + s.kept ≡ shape.pages
-  pub kept : (s : State K) (e : ℕ × Box K) (u : Update K) (n : NoteOf) → (published e u n s).kept + how_many (published e u n s).rooted ≡ s.kept + how_many s.rooted
+  pub kept : (s : State K) (e : ℕ × BucketBox K) (u : Update K) (n : LayoutChange) → (published e u n s).kept + how_many (published e u n s).rooted ≡ s.kept + how_many s.rooted

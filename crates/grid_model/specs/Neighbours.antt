@@ -8,28 +8,28 @@ use Rattle.grid_types.specs.declared.shape.Shape.{Shape}
 use Rattle.grid_model.specs.Lists.{below, zip_with}
 use Rattle.grid_model.specs.Scales.{top}
 use Rattle.grid_model.specs.Tables.{Table}
-use Rattle.grid_model.specs.Layouts.{Box, Layout, holder, inside}
+use Rattle.grid_model.specs.Layouts.{BucketBox, Layout, holder, records_inside}
 
 -- a side of a region: below or above it in an attribute
-pub data Side : Type 0 where
-  Below : (attribute : ℕ) → Side
-  Above : (attribute : ℕ) → Side
+pub data Direction : Type 0 where
+  Below : (attribute : ℕ) → Direction
+  Above : (attribute : ℕ) → Direction
 
--- the sides of an attribute, below before above
-abbrev pub sides_of : ℕ → List Side
-sides_of a = Below a ∷ Above a ∷ []
+-- the directions of an attribute, below before above
+abbrev pub directions_of : ℕ → List Direction
+directions_of a = Below a ∷ Above a ∷ []
 
--- the sides of a region, attributes ascending
-abbrev pub sides : ℕ → List Side
-sides K = flat_map sides_of (below K)
+-- the directions of a region, attributes ascending
+abbrev pub directions : ℕ → List Direction
+directions K = flat_map directions_of (below K)
 
 -- the lowest corner, moved to one below the low bound or one above the high bound; none at the end of the numbers
-abbrev pub probe : {K : ℕ} → Region K → Side → Option (List ℕ)
+abbrev pub probe : {K : ℕ} → Region K → Direction → Option (List ℕ)
 probe r (Below a) = if nat_lt 0 (slice_index r.lo a) then Some (slice_set r.lo a (slice_index r.lo a - 1)) else None
 probe r (Above a) = if nat_lt (slice_index r.hi a) top then Some (slice_set r.lo a (slice_index r.hi a + 1)) else None
 
 -- the neighbour on a side: the box that has the moved corner, with its number
-abbrev pub neighbour : {K : ℕ} → Layout K → Region K → Side → Option (ℕ × Box K)
+abbrev pub neighbour : {K : ℕ} → Layout K → Region K → Direction → Option (ℕ × BucketBox K)
 neighbour L r side = option_and_then (holder L) (probe r side)
 
 -- two lists are the same but at a place
@@ -54,20 +54,20 @@ hull r s = record { lo = zip_with min r.lo s.lo; hi = zip_with max r.hi s.hi }
 
 -- two regions hold at most seven tenths of a bucket's records together
 abbrev pub fit_together : {K : ℕ} → Shape → Table → Region K → Region K → Bool
-fit_together shape t r s = nat_le (length (inside t r) + length (inside t s)) (7 * shape.capacity / 10)
+fit_together shape t r s = nat_le (length (records_inside t r) + length (records_inside t s)) (7 * shape.capacity / 10)
 
 -- a region joins with a box where both are a box and fit together
 abbrev pub can_join : {K : ℕ} → Shape → Table → Region K → Region K → Bool
 can_join shape t r s = make_a_box r s && fit_together shape t r s
 
 -- the number of a box that the region joins with
-abbrev pub if_joins : {K : ℕ} → Shape → Table → Region K → ℕ × Box K → Option ℕ
+abbrev pub if_joins : {K : ℕ} → Shape → Table → Region K → ℕ × BucketBox K → Option ℕ
 if_joins shape t r e = if can_join shape t r e.1.region then Some e.0 else None
 
 -- the number of the neighbour on a side, where it joins
-abbrev pub joins : {K : ℕ} → Shape → Layout K → Table → Region K → Side → Option ℕ
+abbrev pub joins : {K : ℕ} → Shape → Layout K → Table → Region K → Direction → Option ℕ
 joins shape L t r side = option_and_then (if_joins shape t r) (neighbour L r side)
 
--- the numbers of the neighbours that join, by sides, where the table is the one after the removal
+-- the numbers of the neighbours that join, by directions, where the table is the one after the removal
 unfoldable pub partners : {K : ℕ} → Shape → Layout K → Table → Region K → List ℕ
-partners shape L t r = filter_map (joins shape L t r) (sides (length r.lo))
+partners shape L t r = filter_map (joins shape L t r) (directions (length r.lo))

@@ -51,8 +51,8 @@ abbrev pub value : List ℕ → ℕ
 value w = fold (λ n b. n * 10 + (b - 48)) 0 w
 
 -- the number that a word is the print of, up to the greatest number of an attribute
-abbrev pub number_of : List ℕ → Option ℕ
-number_of w = if is_text (decimal (value w)) w && nat_le (value w) top then Some (value w) else None
+abbrev pub parsed_number : List ℕ → Option ℕ
+parsed_number w = if is_text (decimal (value w)) w && nat_le (value w) top then Some (value w) else None
 
 -- all of them, where none is missing
 abbrev pub all_of : {X : Type 0} → List (Option X) → Option (List X)
@@ -65,8 +65,8 @@ abbrev pub if_count : {X : Type 0} → ℕ → List X → Option (List X)
 if_count K xs = if length xs == K then Some xs else None
 
 -- a key: K numbers with commas between
-abbrev pub key_of : ℕ → List ℕ → Option (List ℕ)
-key_of K w = option_and_then (if_count K) (all_of (map number_of (pieces 44 w)))
+abbrev pub parsed_key : ℕ → List ℕ → Option (List ℕ)
+parsed_key K w = option_and_then (if_count K) (all_of (map parsed_number (pieces 44 w)))
 
 -- the value, where there is one
 abbrev pub ok_of : {X E : Type 0} → Result X E → Option X
@@ -74,34 +74,34 @@ ok_of (Ok x) = Some x
 ok_of (Err e) = None
 
 -- data: a dash for no bytes, or 2 to 80 hexadecimal digits, two for each byte, in either case
-abbrev pub data_of : List ℕ → Option (List ℕ)
-data_of w = if is_text w (codes "-") then Some [] else (if nat_le 2 (length w) && nat_le (length w) 80 then ok_of (decode_of w) else None)
+abbrev pub parsed_data : List ℕ → Option (List ℕ)
+parsed_data w = if is_text w (codes "-") then Some [] else (if nat_le 2 (length w) && nat_le (length w) 80 then ok_of (decode_of w) else None)
 
 -- a side from one number to another that is not below it
-abbrev pub between_of : Option ℕ → Option ℕ → Option Side
-between_of (Some lo) (Some hi) = if nat_le lo hi then Some (Between lo hi) else None
-between_of (Some lo) None = None
-between_of None o = None
+abbrev pub parsed_between : Option ℕ → Option ℕ → Option Side
+parsed_between (Some lo) (Some hi) = if nat_le lo hi then Some (Between lo hi) else None
+parsed_between (Some lo) None = None
+parsed_between None o = None
 
 -- the pieces of a side between dots: a number, or two with nothing between the dots
-abbrev pub side_of_pieces : List (List ℕ) → Option Side
-side_of_pieces (n ∷ []) = option_map Exactly (number_of n)
-side_of_pieces (lo ∷ [] ∷ hi ∷ []) = between_of (number_of lo) (number_of hi)
-side_of_pieces _ = None
+abbrev pub parsed_side_of_pieces : List (List ℕ) → Option Side
+parsed_side_of_pieces (n ∷ []) = option_map Exactly (parsed_number n)
+parsed_side_of_pieces (lo ∷ [] ∷ hi ∷ []) = parsed_between (parsed_number lo) (parsed_number hi)
+parsed_side_of_pieces _ = None
 
 -- a side: a star, a number, or two numbers with two dots between
-abbrev pub side_of : List ℕ → Option Side
-side_of w = if is_text w (codes "*") then Some Any else side_of_pieces (pieces 46 w)
+abbrev pub parsed_side : List ℕ → Option Side
+parsed_side w = if is_text w (codes "*") then Some Any else parsed_side_of_pieces (pieces 46 w)
 
 -- a query: K sides with commas between
-abbrev pub query_of : (K : ℕ) → List ℕ → Option (Query K)
-query_of K w = option_map (λ sides. record { sides = sides }) (option_and_then (if_count K) (all_of (map side_of (pieces 44 w))))
+abbrev pub parsed_query : (K : ℕ) → List ℕ → Option (Query K)
+parsed_query K w = option_map (λ sides. record { sides = sides }) (option_and_then (if_count K) (all_of (map parsed_side (pieces 44 w))))
 
 -- a put, where there are a key and data
-abbrev pub put_of : {K : ℕ} → Option (List ℕ) → Option (List ℕ) → Option (Request K)
-put_of (Some k) (Some d) = Some (ask.Put (record { key = record { at = k }; value = d }))
-put_of (Some k) None = None
-put_of None o = None
+abbrev pub parsed_put : {K : ℕ} → Option (List ℕ) → Option (List ℕ) → Option (Request K)
+parsed_put (Some k) (Some d) = Some (ask.Put (record { key = record { numbers = k }; value = d }))
+parsed_put (Some k) None = None
+parsed_put None o = None
 
 -- a request, if the first word is this command
 abbrev pub if_command : {K : ℕ} → List ℕ → List ℕ → Option (Request K) → Option (Request K)
@@ -114,18 +114,18 @@ alone_of K w = first_some (if_command w (codes "stat") (Some ask.Stat) ∷ if_co
 -- what a command with one argument asks
 abbrev pub about_of : (K : ℕ) → List ℕ → List ℕ → Option (Request K)
 about_of K w a = first_some (
-    if_command w (codes "get") (option_map (λ k. ask.Get (record { at = k })) (key_of K a))
-    ∷ if_command w (codes "remove") (option_map (λ k. ask.Remove (record { at = k })) (key_of K a))
-    ∷ if_command w (codes "list") (option_map ask.List (query_of K a))
-    ∷ if_command w (codes "count") (option_map ask.Count (query_of K a))
+    if_command w (codes "get") (option_map (λ k. ask.Get (record { numbers = k })) (parsed_key K a))
+    ∷ if_command w (codes "remove") (option_map (λ k. ask.Remove (record { numbers = k })) (parsed_key K a))
+    ∷ if_command w (codes "list") (option_map ask.List (parsed_query K a))
+    ∷ if_command w (codes "count") (option_map ask.Count (parsed_query K a))
     ∷ [])
 
 -- what the words of a line ask
-abbrev pub request_of : (K : ℕ) → List (List ℕ) → Option (Request K)
-request_of K (w ∷ []) = alone_of K w
-request_of K (w ∷ a ∷ []) = about_of K w a
-request_of K (w ∷ a ∷ b ∷ []) = if_command w (codes "put") (put_of (key_of K a) (data_of b))
-request_of K _ = None
+abbrev pub parsed_request : (K : ℕ) → List (List ℕ) → Option (Request K)
+parsed_request K (w ∷ []) = alone_of K w
+parsed_request K (w ∷ a ∷ []) = about_of K w a
+parsed_request K (w ∷ a ∷ b ∷ []) = if_command w (codes "put") (parsed_put (parsed_key K a) (parsed_data b))
+parsed_request K _ = None
 
 -- what a line says: nothing, who speaks from here on, a request, or nothing of the grammar
 pub data Meaning (K : ℕ) : Type 0 where
@@ -147,8 +147,8 @@ speaks (Some n) = if nat_le 1 n && nat_le n 16 then Speaks n else Bad
 -- what a command says
 abbrev pub command : (K : ℕ) → List (List ℕ) → Meaning K
 command K [] = Silent
-command K (w ∷ a ∷ []) = if is_text w (codes "client") then speaks (number_of a) else asks (request_of K (w ∷ a ∷ []))
-command K ws = asks (request_of K ws)
+command K (w ∷ a ∷ []) = if is_text w (codes "client") then speaks (parsed_number a) else asks (parsed_request K (w ∷ a ∷ []))
+command K ws = asks (parsed_request K ws)
 
 -- a word begins with the byte of a comment
 abbrev pub is_comment : List ℕ → Bool

@@ -29,7 +29,7 @@ abbrev pub line_at : {K : ℕ} → List (Meaning K) → ℕ → Option (Line K)
 line_at ms i = option_and_then (line_of (speaker_at ms i)) (slice_get ms i)
 
 -- line n, counted from 1, is the first that is nothing of the grammar
-pub record IsFirstBad {K : ℕ} (ms : List (Meaning K)) (n : ℕ) : Type 0 where
+pub record IsFirstBadLine {K : ℕ} (ms : List (Meaning K)) (n : ℕ) : Type 0 where
   pub some : 1 ≤ n
   pub bad : slice_get ms (n - 1) ≡ Some Bad
   pub first : (i : ℕ) → i + 1 < n → slice_get ms i ≢ Some Bad
@@ -37,7 +37,7 @@ pub record IsFirstBad {K : ℕ} (ms : List (Meaning K)) (n : ℕ) : Type 0 where
 -- a script has one list of lines or one first fault: it is too long, or a line is the first that is nothing of the grammar, or its lines are what each line asks, with the client that speaks there
 pub record IsOneScript (K : ℕ) : Type 0 where
   pub long : (bytes : List ℕ) → (lines K bytes ≡ Err 0) ↔ (longest < length bytes)
-  pub fault : (bytes : List ℕ) (n : ℕ) → length bytes ≤ longest → (lines K bytes ≡ Err n) ↔ IsFirstBad (meanings K bytes) n
+  pub fault : (bytes : List ℕ) (n : ℕ) → length bytes ≤ longest → (lines K bytes ≡ Err n) ↔ IsFirstBadLine (meanings K bytes) n
   pub whole : (bytes : List ℕ) (ls : List (Line K)) → length bytes ≤ longest → (lines K bytes ≡ Ok ls) ↔ (((i : ℕ) → slice_get (meanings K bytes) i ≢ Some Bad) × (ls ≡ filter_map (line_at (meanings K bytes)) (below (length (meanings K bytes)))))
 
 -- what is printed is the lines of the replies, each as one line of the text

@@ -8,10 +8,10 @@ use Rattle.grid_types.specs.declared.shape.Shape.{Shape}
 use Rattle.grid_types.specs.declared.update.Record.{Record}
 use Rattle.grid_types.specs.declared.update.Update.{Update}
 use Rattle.grid_types.specs.declared.update.Update.TheVariants.{Put, Remove}
-use Rattle.grid_types.specs.declared.note.NoteOf.{NoteOf}
-use Rattle.grid_types.specs.declared.note.NoteOf.TheVariants as note
-use Rattle.grid_types.specs.declared.note.Noted.{Noted}
-use Rattle.grid_model.specs.Notes.{key_of}
+use Rattle.grid_types.specs.declared.layout_change.LayoutChange.{LayoutChange}
+use Rattle.grid_types.specs.declared.layout_change.LayoutChange.TheVariants as note
+use Rattle.grid_types.specs.declared.layout_change.LoggedUpdate.{LoggedUpdate}
+use Rattle.grid_model.specs.Notes.{updated_key}
 
 -- a page is a head of 96 bytes and a body of 4,000, both filled up with zeros
 unfoldable pub page : List ℕ → List ℕ → List ℕ
@@ -40,36 +40,36 @@ unfoldable pub area_head : List ℕ → ℕ → ℕ → ℕ → List ℕ
 area_head kind index count root = kind ++ (bytes_of 4 index ++ (bytes_of 4 count ++ (0 ∷ 0 ∷ 0 ∷ 0 ∷ bytes_of 8 root)))
 
 -- a page with boundaries of a scale
-unfoldable pub scale_page : ℕ → ℕ → List ℕ → List ℕ
-scale_page root index boundaries = page (area_head (codes "GFS1") index (length boundaries) root) (numbers boundaries)
+unfoldable pub scale_spelling : ℕ → ℕ → List ℕ → List ℕ
+scale_spelling root index boundaries = page (area_head (codes "GFS1") index (length boundaries) root) (numbers boundaries)
 
 -- the page with the data page of each directory part
-unfoldable pub list_page : ℕ → ℕ → List ℕ → List ℕ
-list_page root index pages = page (area_head (codes "GFL1") index (length pages) root) (words_of pages)
+unfoldable pub list_spelling : ℕ → ℕ → List ℕ → List ℕ
+list_spelling root index pages = page (area_head (codes "GFL1") index (length pages) root) (words_of pages)
 
 -- a page with the data pages of a thousand bucket numbers
-unfoldable pub bucket_table_page : ℕ → ℕ → List ℕ → List ℕ
-bucket_table_page root index pages = page (area_head (codes "GFT1") index (length pages) root) (words_of pages)
+unfoldable pub bucket_table_spelling : ℕ → ℕ → List ℕ → List ℕ
+bucket_table_spelling root index pages = page (area_head (codes "GFT1") index (length pages) root) (words_of pages)
 
 -- a directory page: its part, and the bucket number of each cell
-unfoldable pub directory_page : ℕ → List ℕ → List ℕ
-directory_page part cells = page (codes "GFD1" ++ (bytes_of 4 part ++ bytes_of 4 (length cells))) (words_of cells)
+unfoldable pub directory_spelling : ℕ → List ℕ → List ℕ
+directory_spelling part cells = page (codes "GFD1" ++ (bytes_of 4 part ++ bytes_of 4 (length cells))) (words_of cells)
 
 -- a record is 32 bytes for the key, one for the length of the data, and 47 for the data
-unfoldable pub row_bytes : {K : ℕ} → Record K → List ℕ
-row_bytes r = padded 32 (numbers r.key.at) ++ (length r.value ∷ padded 47 r.value)
+unfoldable pub record_bytes : {K : ℕ} → Record K → List ℕ
+record_bytes r = padded 32 (numbers r.key.numbers) ++ (length r.value ∷ padded 47 r.value)
 
 -- the head of a bucket page is 96 bytes: the kind, the bucket's number, how many records, turn and arity, and the two corners of the region
 unfoldable pub bucket_head : (K : ℕ) → ℕ → ℕ → ℕ → Region K → List ℕ
 bucket_head K number count turn region = codes "GFB1" ++ (bytes_of 4 number ++ (bytes_of 2 count ++ (turn ∷ K ∷ 0 ∷ 0 ∷ 0 ∷ 0 ∷ (padded 32 (numbers region.lo) ++ (padded 32 (numbers region.hi) ++ replicate 16 0)))))
 
 -- a bucket page is the head, and the records one after the other, filled up with zeros
-unfoldable pub bucket_page : (K : ℕ) → ℕ → ℕ → Region K → List (Record K) → List ℕ
-bucket_page K number turn region rows = bucket_head K number (length rows) turn region ++ padded 4000 (flat_map row_bytes rows)
+unfoldable pub bucket_spelling : (K : ℕ) → ℕ → ℕ → Region K → List (Record K) → List ℕ
+bucket_spelling K number turn region rows = bucket_head K number (length rows) turn region ++ padded 4000 (flat_map record_bytes rows)
 
 -- a gate page: the half of the journal, and the gate of each slot
-unfoldable pub gate_page : ℕ → List ℕ → List ℕ
-gate_page half gates = page (codes "GFG1" ++ bytes_of 4 half) gates
+unfoldable pub gate_spelling : ℕ → List ℕ → List ℕ
+gate_spelling half gates = page (codes "GFG1" ++ bytes_of 4 half) gates
 
 -- an update is 1 for a put and 2 for a remove
 abbrev pub update_code : {K : ℕ} → Update K → ℕ
@@ -77,49 +77,49 @@ update_code (Put r) = 1
 update_code (Remove k) = 2
 
 -- a note is 0 for plain, 1 for a cut at an existing boundary, 2 for a refinement, 3 for a merge
-abbrev pub note_code : NoteOf → ℕ
+abbrev pub note_code : LayoutChange → ℕ
 note_code note.Plain = 0
 note_code (note.Cut c right) = cond c.fresh 2 1
 note_code (note.Merge m) = 3
 
 -- the attribute of a cut
-abbrev pub note_attribute : NoteOf → ℕ
+abbrev pub note_attribute : LayoutChange → ℕ
 note_attribute note.Plain = 0
 note_attribute (note.Cut c right) = c.attribute
 note_attribute (note.Merge m) = 0
 
 -- the new bucket of a cut, or the neighbour of a merge
-abbrev pub note_bucket : NoteOf → ℕ
+abbrev pub note_bucket : LayoutChange → ℕ
 note_bucket note.Plain = 0
 note_bucket (note.Cut c right) = right
 note_bucket (note.Merge m) = m
 
 -- the boundary of a cut
-abbrev pub note_boundary : NoteOf → ℕ
+abbrev pub note_boundary : LayoutChange → ℕ
 note_boundary note.Plain = 0
 note_boundary (note.Cut c right) = c.value
 note_boundary (note.Merge m) = 0
 
 -- the data of an update; a remove has none
-abbrev pub data_of : {K : ℕ} → Update K → List ℕ
-data_of (Put r) = r.value
-data_of (Remove k) = []
+abbrev pub update_data : {K : ℕ} → Update K → List ℕ
+update_data (Put r) = r.value
+update_data (Remove k) = []
 
 -- the 96 bytes of an update with its note
-unfoldable pub update_bytes : {K : ℕ} → Noted K → List ℕ
-update_bytes u = padded 96 (update_code u.update ∷ note_code u.note ∷ note_attribute u.note ∷ length (data_of u.update)
-    ∷ (bytes_of 4 (note_bucket u.note) ++ (bytes_of 8 (note_boundary u.note) ++ (padded 32 (numbers (key_of u.update)) ++ padded 40 (data_of u.update)))))
+unfoldable pub update_bytes : {K : ℕ} → LoggedUpdate K → List ℕ
+update_bytes u = padded 96 (update_code u.update ∷ note_code u.note ∷ note_attribute u.note ∷ length (update_data u.update)
+    ∷ (bytes_of 4 (note_bucket u.note) ++ (bytes_of 8 (note_boundary u.note) ++ (padded 32 (numbers (updated_key u.update)) ++ padded 40 (update_data u.update)))))
 
 -- a batch: the session that wrote it, the place of its first update, and its updates
-pub record Batch (K : ℕ) : Type 0 where
+pub record LoggedBatch (K : ℕ) : Type 0 where
   pub session : ℕ
   pub first : ℕ
-  pub updates : List (Noted K)
+  pub updates : List (LoggedUpdate K)
 
 -- the head of a slot page is 96 bytes: its kind, how many updates, the session and the place of the first update, filled up with zeros
-unfoldable pub slot_head : {K : ℕ} → Batch K → List ℕ
+unfoldable pub slot_head : {K : ℕ} → LoggedBatch K → List ℕ
 slot_head b = padded 96 (codes "GFJ1" ++ (bytes_of 2 (length b.updates) ++ (0 ∷ 0 ∷ (bytes_of 8 b.session ++ bytes_of 8 b.first))))
 
 -- a slot page is the head, and the updates one after the other, filled up with zeros
-unfoldable pub slot_page : {K : ℕ} → Batch K → List ℕ
-slot_page b = slot_head b ++ padded 4000 (flat_map update_bytes b.updates)
+unfoldable pub slot_spelling : {K : ℕ} → LoggedBatch K → List ℕ
+slot_spelling b = slot_head b ++ padded 4000 (flat_map update_bytes b.updates)

@@ -19,10 +19,10 @@ pub record IsFiniteMap (K : ℕ) : Type 0 where
   pub put_elsewhere : (t : Table) (k d q : List ℕ) → q ≢ k → get (with_data t k d) q ≡ get t q
   pub gone_there : (t : Table) (k : List ℕ) → get (without t k) k ≡ None
   pub gone_elsewhere : (t : Table) (k q : List ℕ) → k ≢ q → get (without t k) q ≡ get t q
-  pub update_there : (t : Table) (r : Record K) → get (effect t (Put r)) r.key.at ≡ Some r.value
-  pub update_elsewhere : (t : Table) (r : Record K) (q : List ℕ) → q ≢ r.key.at → get (effect t (Put r)) q ≡ get t q
-  pub removal_there : (t : Table) (k : Key K) → get (effect t (Remove k)) k.at ≡ None
-  pub removal_elsewhere : (t : Table) (k : Key K) (q : List ℕ) → k.at ≢ q → get (effect t (Remove k)) q ≡ get t q
+  pub update_there : (t : Table) (r : Record K) → get (effect t (Put r)) r.key.numbers ≡ Some r.value
+  pub update_elsewhere : (t : Table) (r : Record K) (q : List ℕ) → q ≢ r.key.numbers → get (effect t (Put r)) q ≡ get t q
+  pub removal_there : (t : Table) (k : Key K) → get (effect t (Remove k)) k.numbers ≡ None
+  pub removal_elsewhere : (t : Table) (k : Key K) (q : List ℕ) → k.numbers ≢ q → get (effect t (Remove k)) q ≡ get t q
 
 -- a listing ascends, so that each record stands in it once, and has exactly the records that match
 pub record Lists (K : ℕ) : Type 0 where
@@ -37,6 +37,6 @@ extended h e = record h { entries = h.entries ++ e ∷ [] }
 pub record MakesStates (K : ℕ) : Type 0 where
   pub start : (h : History K) → state_at h h.from ≡ h.base
   pub next : (h : History K) (e : Entry K) → state_at (extended h e) (front h + 1) ≡ effect (state_at h (front h)) e.update
-  pub put_there : (h : History K) (caller : ℕ) (r : Record K) → get (state_at (extended h (record { caller = caller; update = Put r })) (front h + 1)) r.key.at ≡ Some r.value
-  pub removal_there : (h : History K) (caller : ℕ) (k : Key K) → get (state_at (extended h (record { caller = caller; update = Remove k })) (front h + 1)) k.at ≡ None
+  pub put_there : (h : History K) (caller : ℕ) (r : Record K) → get (state_at (extended h (record { caller = caller; update = Put r })) (front h + 1)) r.key.numbers ≡ Some r.value
+  pub removal_there : (h : History K) (caller : ℕ) (k : Key K) → get (state_at (extended h (record { caller = caller; update = Remove k })) (front h + 1)) k.numbers ≡ None
   pub before : (h later : History K) (n : ℕ) → GoesOn h later → n ≤ front h → state_at later n ≡ state_at h n

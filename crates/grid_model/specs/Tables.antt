@@ -7,7 +7,7 @@ use Rattle.grid_types.specs.declared.update.Update.{Update}
 use Rattle.grid_types.specs.declared.update.Update.TheVariants.{Put, Remove}
 use Rattle.grid_types.specs.Keys.{key_cmp}
 
--- an entry is a key, as the list of its numbers, with its data
+-- an pair_of is a key, as the list of its numbers, with its data
 abbrev pub Table : Type 0
 Table = List (List ℕ × List ℕ)
 
@@ -29,13 +29,13 @@ without t k = where_key key_cmp (λ x. not (eq_by_cmp key_cmp k x)) t
 
 -- what an update makes of a table
 unfoldable pub effect : {K : ℕ} → Table → Update K → Table
-effect t (Put r) = with_data t r.key.at r.value
-effect t (Remove k) = without t k.at
+effect t (Put r) = with_data t r.key.numbers r.value
+effect t (Remove k) = without t k.numbers
 
--- a record is an entry: its key with its data
-abbrev pub entry : {K : ℕ} → Record K → List ℕ × List ℕ
-entry r = (r.key.at, r.value)
+-- a record is an pair_of: its key with its data
+abbrev pub pair_of : {K : ℕ} → Record K → List ℕ × List ℕ
+pair_of r = (r.key.numbers, r.value)
 
 -- the entries of some records
-abbrev pub entries_of : {K : ℕ} → List (Record K) → Table
-entries_of rows = map entry rows
+abbrev pub pairs_of : {K : ℕ} → List (Record K) → Table
+pairs_of rows = map pair_of rows

@@ -41,7 +41,7 @@ got_text (Some d) = codes " = " ++ hex_text d
 
 -- what is printed of a record in a listing: key and data
 abbrev pub row_text : {K : ℕ} → Record K → List ℕ
-row_text r = key_text r.key.at ++ (32 ∷ hex_text r.value)
+row_text r = key_text r.key.numbers ++ (32 ∷ hex_text r.value)
 
 -- what is printed of the counts
 abbrev pub stat_text : Stat → List ℕ

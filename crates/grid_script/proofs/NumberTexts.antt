@@ -6,7 +6,7 @@ use Rattle.std.proofs.lemmas.Fmt.{digits_value-decimal}
 use Rattle.std.proofs.lemmas.Str.Parse.{IsNumeralModel, numerals_by_fold, tells_all_ascii_digits}
 use lib.Pointwise.{bytes_decides}
 use Rattle.grid_types.proofs.Numbers.{first, second, both}
-use Rattle.grid_model.specs.Script.{is_text, value, number_of}
+use Rattle.grid_model.specs.Script.{is_text, value, parsed_number}
 use Rattle.grid_model.specs.Scales.{top}
 use Rattle.std.specs.Prelude.{Result, Ok, Err}
 
@@ -20,13 +20,13 @@ value-decimal : (n : ℕ) → n < 2 ^ 64 → value (decimal n) ≡ n
 value-decimal n h = digits_value-decimal own n h
 
 -- a word that is a number's print writes it
-pub number-found : (word : List ℕ) (n : ℕ) → n < 2 ^ 64 → word ≡ decimal n → number_of word ≡ Some n
-number-found word n h e = subst (λ w. number_of w ≡ Some n) (sym e)
+pub number-found : (word : List ℕ) (n : ℕ) → n < 2 ^ 64 → word ≡ decimal n → parsed_number word ≡ Some n
+number-found word n h e = subst (λ w. parsed_number w ≡ Some n) (sym e)
     (ap (λ v. cond (is_text (decimal v) (decimal n) && nat_le v top) (Some v) None) (value-decimal n h)
     ∙ ap (λ t. cond t (Some n) None) (both (is_text (decimal n) (decimal n)) (nat_le n top) ((bytes_decides (decimal n) (decimal n)).1 refl) (le-leb n top (omega (arith, h)))))
 
 -- any other word writes none
-pub number-none : (word : List ℕ) → ((n : ℕ) → n < 2 ^ 64 → word ≡ decimal n → ⊥) → number_of word ≡ None
+pub number-none : (word : List ℕ) → ((n : ℕ) → n < 2 ^ 64 → word ≡ decimal n → ⊥) → parsed_number word ≡ None
 number-none word h = by (is_text (decimal (value word)) word && nat_le (value word) top) refl
   where
     written : is_text (decimal (value word)) word ≡ true → word ≡ decimal (value word)

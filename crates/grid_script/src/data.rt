@@ -1,12 +1,12 @@
 //! Data, as scripts write it.
 ghost use Rattle.std.specs.Prelude.{◌≡◌};
-ghost use Rattle.grid_model.specs.Script.{data_of};
+ghost use Rattle.grid_model.specs.Script.{parsed_data};
 
 use grid_types::Data;
 
 /// The data that a field writes: two digits for each byte, or a dash for no bytes.
 pub fn data_of(field: &[u8]) -> Option<Data>
-    ensures { result ≡ data_of field.now }
+    ensures { result ≡ parsed_data field.now }
 {
     if field == b"-".as_slice() {
         return Data::new(b"");

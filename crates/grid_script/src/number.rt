@@ -1,6 +1,6 @@
 //! Numbers in decimal.
 ghost use Rattle.std.specs.Prelude.{◌≡◌, ◌<◌, ◌^◌, ℕ, decimal, IfSome, IfNone};
-ghost use Rattle.grid_model.specs.Script.{number_of};
+ghost use Rattle.grid_model.specs.Script.{parsed_number};
 
 use itoa::Buffer;
 
@@ -8,7 +8,7 @@ use itoa::Buffer;
 pub fn number_of(text: &[u8]) -> Option<u64>
     ensures found { IfSome result (λ n. text.now ≡ decimal n) }
     ensures none { IfNone result ((n : ℕ) → n < 2 ^ 64 → text.now ≡ decimal n → ⊥) }
-    ensures value { result ≡ number_of text.now }
+    ensures value { result ≡ parsed_number text.now }
 {
     let Ok(digits) = str::from_utf8(text) else {
         return None;

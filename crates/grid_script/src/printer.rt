@@ -21,7 +21,7 @@ fn before(a: usize) -> &'static [u8]
 fn print_key<const K: usize>(key: &Key<K>, out: &mut Text)
     requires few { K ≤ 4 }
     requires room { array_vec_len out.old + 84 ≤ 4096 }
-    ensures items { out.new.items ≡ out.old.items ++ key_text key.now.at }
+    ensures items { out.new.items ≡ out.old.items ++ key_text key.now.numbers }
     ensures len { array_vec_len out.new ≤ array_vec_len out.old + 84 }
 {
     let numbers = key.numbers();

@@ -3,7 +3,7 @@ use Rattle.std.proofs.Common.{◌≡◌, ◌≤◌, ℕ, zero, suc, List, [], le
 use Rattle.grid_types.specs.Keys.{IsKey}
 use Rattle.grid_model.proofs.NewLayout.{alike_key}
 use Rattle.grid_types.specs.Regions.{Within}
-use Rattle.grid_model.specs.Tables.{Table, with_data, entries_of}
+use Rattle.grid_model.specs.Tables.{Table, with_data, pairs_of}
 use Rattle.grid_types.specs.Pages.{page_of}
 use Rattle.bucket_page.specs.declared.bucket.Bucket.{Bucket}
 use Rattle.bucket_page.specs.Spelling.{spelling, IsBucket}
@@ -31,15 +31,15 @@ empty_is_bucket K C b some number turn lo hi none =
     }
 
 -- a page that spells a bucket of the whole region stands for its records
-pub stands : (K C : ℕ) (image : List ℕ) (t : Table) (b : Bucket K) → IsBucket K C b → b.number ≡ 0 → ((at : List ℕ) → IsKey K at → Within b.region.lo b.region.hi at) → entries_of b.rows.items ≡ t → page_of 0 image ≡ spelling K b → StandsFor K C image t
+pub stands : (K C : ℕ) (image : List ℕ) (t : Table) (b : Bucket K) → IsBucket K C b → b.number ≡ 0 → ((at : List ℕ) → IsKey K at → Within b.region.lo b.region.hi at) → pairs_of b.rows.items ≡ t → page_of 0 image ≡ spelling K b → StandsFor K C image t
 stands K C image t b lawful first whole records page = record { bucket = b; has = record { spelled = record { lawful = lawful; bytes = page }; zero = first }; whole = whole; records = records }
 
 -- the page after a put
 pub stands-put : (K C D : ℕ) (t : Table) (image now : List ℕ) (b n : Bucket K) (k d : List ℕ) (s : StandsFor K C image t) → b ≡ s.bucket → D ≡ C → IsBucket K D n → n.number ≡ b.number → n.region ≡ b.region
-    → entries_of n.rows.items ≡ with_data (entries_of b.rows.items) k d → page_of 0 now ≡ spelling K n → StandsFor K C now (with_data t k d)
+    → pairs_of n.rows.items ≡ with_data (pairs_of b.rows.items) k d → page_of 0 now ≡ spelling K n → StandsFor K C now (with_data t k d)
 stands-put K C D t image now b n k d s same capacity lawful number region rows page =
     stands K C now (with_data t k d) n (subst (λ m. IsBucket K m n) capacity lawful)
     (number ∙ ap (λ x. x.number) same ∙ s.has.zero)
     (λ at key. subst (λ r. Within r.lo r.hi at) (sym (region ∙ ap (λ x. x.region) same)) (s.whole at key))
-    (rows ∙ ap (λ x. with_data (entries_of x.rows.items) k d) same ∙ ap (λ es. with_data es k d) s.records)
+    (rows ∙ ap (λ x. with_data (pairs_of x.rows.items) k d) same ∙ ap (λ es. with_data es k d) s.records)
     page

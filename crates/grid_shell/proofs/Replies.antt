@@ -4,24 +4,24 @@ use Rattle.grid_types.specs.declared.answer.Answer.{Answer}
 use Rattle.grid_types.specs.declared.key.Key.{Key}
 use Rattle.grid_types.specs.declared.refusal.Refusal.{Refusal}
 use Rattle.grid_types.specs.declared.refusal.Refusal.TheVariants.{ReadFault, WriteFault, Damaged, NoCut, Worn}
-use Rattle.grid_types.specs.declared.note.NoteOf.TheVariants as note
+use Rattle.grid_types.specs.declared.layout_change.LayoutChange.TheVariants as note
 use Rattle.grid_types.specs.declared.request.Request.TheVariants as ask
 use Rattle.grid_types.specs.declared.request.Reply.TheVariants as reply
 use Rattle.grid_types.specs.declared.update.Record.{Record}
 use Rattle.grid_types.specs.declared.update.Update.TheVariants.{Put}
 use Rattle.grid_types.specs.Keys.{IsKey}
 use Rattle.grid_model.specs.Tables.{Table, get, with_data}
-use Rattle.grid_model.specs.Layouts.{inside, whole}
+use Rattle.grid_model.specs.Layouts.{records_inside, whole}
 use Rattle.grid_model.specs.Lone.{State, lone, done, refused}
 use Rattle.grid_shell.specs.Standing.{undivided, worn_at, takes, StandsFor, StandsAt, CanRefuse}
 use Rattle.grid_shell.proofs.Undivided.{first_entry, inside_all, put_done, put_refused, done_table, done_front, done_layout, done_used, done_rooted, done_kept}
 
 -- all records of the file lie in the one box
-pub all_inside : (K C : ℕ) (image : List ℕ) (t : Table) → StandsFor K C image t → inside t (whole K) ≡ t
-all_inside K C image t s = subst (λ es. inside es (whole K) ≡ es) s.records (inside_all s.bucket.rows.items (λ i d lt. (s.has.spelled.lawful.rows i d lt).key))
+pub all_inside : (K C : ℕ) (image : List ℕ) (t : Table) → StandsFor K C image t → records_inside t (whole K) ≡ t
+all_inside K C image t s = subst (λ es. records_inside es (whole K) ≡ es) s.records (inside_all s.bucket.rows.items (λ i d lt. (s.has.spelled.lawful.rows i d lt).key))
 
 module _ {K : ℕ} (C : ℕ) (s : State K) where
-  pub got_is : (k : Key K) (a : Answer (Option (List ℕ))) → a.at ≡ s.front → a.value ≡ get s.table k.at → reply.Got a ≡ (lone (undivided K C) s (ask.Get k)).reply
+  pub got_is : (k : Key K) (a : Answer (Option (List ℕ))) → a.at ≡ s.front → a.value ≡ get s.table k.numbers → reply.Got a ≡ (lone (undivided K C) s (ask.Get k)).reply
   unfolding lone
   got_is k a p q = λ i. reply.Got (record { at = p i; value = q i })
 
@@ -37,24 +37,24 @@ module _ {K : ℕ} (C : ℕ) (s : State K) where
     used = at.used;
   }
 
-  module _ (image : List ℕ) (front : ℕ) (r : Record K) (key : IsKey K r.key.at) (at : StandsAt K C image front s) where
+  module _ (image : List ℕ) (front : ℕ) (r : Record K) (key : IsKey K r.key.numbers) (at : StandsAt K C image front s) where
     few_used : front < worn_at → s.used < worn_at
     few_used lt = omega (arith, at.used, at.updates, lt)
 
-    is_done : front < worn_at → takes C s.table r.key.at ≡ true → lone (undivided K C) s (ask.Put r) ≡ done (first_entry K) (Put r) note.Plain s
+    is_done : front < worn_at → takes C s.table r.key.numbers ≡ true → lone (undivided K C) s (ask.Put r) ≡ done (first_entry K) (Put r) note.Plain s
     is_done lt taken = put_done C s r at.layout at.kept (few_used lt) key (all_inside K C image s.table at.table) taken
 
-    is_refused : takes C s.table r.key.at ≡ false → lone (undivided K C) s (ask.Put r) ≡ refused s (NoCut 1 0)
+    is_refused : takes C s.table r.key.numbers ≡ false → lone (undivided K C) s (ask.Put r) ≡ refused s (NoCut 1 0)
     is_refused full = put_refused C s r at.layout key (all_inside K C image s.table at.table) full
 
-    pub put_is : (a : Answer (Option (List ℕ))) → front < worn_at → takes C s.table r.key.at ≡ true → a.at ≡ front + 1 → a.value ≡ get s.table r.key.at → reply.Put a ≡ (lone (undivided K C) s (ask.Put r)).reply
+    pub put_is : (a : Answer (Option (List ℕ))) → front < worn_at → takes C s.table r.key.numbers ≡ true → a.at ≡ front + 1 → a.value ≡ get s.table r.key.numbers → reply.Put a ≡ (lone (undivided K C) s (ask.Put r)).reply
     put_is a lt taken p q = (λ i. reply.Put (record { at = (p ∙ ap (λ n. n + 1) at.updates) i; value = q i })) ∙ sym (ap (λ o. o.reply) (is_done lt taken))
 
-    pub refusal_is : takes C s.table r.key.at ≡ false → reply.Refused (NoCut 1 0) ≡ (lone (undivided K C) s (ask.Put r)).reply
+    pub refusal_is : takes C s.table r.key.numbers ≡ false → reply.Refused (NoCut 1 0) ≡ (lone (undivided K C) s (ask.Put r)).reply
     refusal_is full = sym (ap (λ o. o.reply) (is_refused full))
 
     -- where a lone caller stands after a put that was taken
-    pub stands_after_put : (new : List ℕ) (now : ℕ) → front < worn_at → takes C s.table r.key.at ≡ true → StandsFor K C new (with_data s.table r.key.at r.value) → now ≡ front + 1 → StandsAt K C new now (lone (undivided K C) s (ask.Put r)).state
+    pub stands_after_put : (new : List ℕ) (now : ℕ) → front < worn_at → takes C s.table r.key.numbers ≡ true → StandsFor K C new (with_data s.table r.key.numbers r.value) → now ≡ front + 1 → StandsAt K C new now (lone (undivided K C) s (ask.Put r)).state
     stands_after_put new now lt taken stands next =
         subst (λ o. StandsAt K C new now o.state) (sym (is_done lt taken)) (record {
           table = subst (StandsFor K C new) (sym (done_table r s)) stands;
@@ -66,7 +66,7 @@ module _ {K : ℕ} (C : ℕ) (s : State K) where
         })
 
     -- and after one that was refused
-    pub stands_after_refusal : (new : List ℕ) (now : ℕ) → takes C s.table r.key.at ≡ false → new ≡ image → now ≡ front → StandsAt K C new now (lone (undivided K C) s (ask.Put r)).state
+    pub stands_after_refusal : (new : List ℕ) (now : ℕ) → takes C s.table r.key.numbers ≡ false → new ≡ image → now ≡ front → StandsAt K C new now (lone (undivided K C) s (ask.Put r)).state
     stands_after_refusal new now full same front_is =
         subst (λ o. StandsAt K C new now o.state) (sym (is_refused full)) (record {
           table = subst (λ i. StandsFor K C i s.table) (sym same) at.table;

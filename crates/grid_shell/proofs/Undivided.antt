@@ -5,7 +5,7 @@ use Rattle.std.specs.Option.{option_map, option_and_then}
 use Rattle.std.proofs.lemmas.Bool.Decides.{nat_tests}
 use Rattle.grid_types.specs.declared.update.Record.{Record}
 use Rattle.grid_types.specs.declared.update.Update.TheVariants.{Put}
-use Rattle.grid_types.specs.declared.note.NoteOf.TheVariants as note
+use Rattle.grid_types.specs.declared.layout_change.LayoutChange.TheVariants as note
 use Rattle.grid_types.specs.declared.refusal.Refusal.TheVariants.{Full, NoCut}
 use Rattle.grid_types.specs.declared.request.Request.TheVariants as ask
 use Rattle.grid_types.specs.Keys.{IsKey}
@@ -13,8 +13,8 @@ use Rattle.grid_types.specs.Regions.{contains}
 use Rattle.grid_model.specs.Lists.{below, least, first_some, or_else}
 use Rattle.grid_model.specs.Scales.{scale_of}
 use Rattle.grid_model.specs.Cells.{cells, parts}
-use Rattle.grid_model.specs.Tables.{Table, get, with_data, effect, entry, entries_of}
-use Rattle.grid_model.specs.Layouts.{Box, Layout, holder, inside, whole, new_layout}
+use Rattle.grid_model.specs.Tables.{Table, get, with_data, effect, pair_of, pairs_of}
+use Rattle.grid_model.specs.Layouts.{BucketBox, Layout, holder, records_inside, whole, new_layout}
 use Rattle.grid_model.specs.Cuts.{cut, candidates, candidates_in, best_existing, best_value, is_within, divides, rank, cells_with, may_grow, old_cut, new_cut, refinement, refinements, cycle}
 use Rattle.grid_model.specs.Notes.{keys_with, cut_note, put_note, put_note_at}
 use Rattle.grid_model.specs.Lone.{State, lone, updated, update_held, put_noted, change, change_claimed, claimed, queued, published, done, refused, need, renewed, dropped, outside, among, free, root, boundaries, how_many}
@@ -22,11 +22,11 @@ use Rattle.grid_model.proofs.NewLayout.{one_cell, whole_has}
 use Rattle.grid_shell.specs.Standing.{undivided, worn_at, nobody, takes}
 
 -- the one box
-abbrev pub first_box : (K : ℕ) → Box K
+abbrev pub first_box : (K : ℕ) → BucketBox K
 first_box K = record { region = whole K; turn = 0 }
 
 -- the one box, with its number
-abbrev pub first_entry : (K : ℕ) → ℕ × Box K
+abbrev pub first_entry : (K : ℕ) → ℕ × BucketBox K
 first_entry K = (0, first_box K)
 
 -- it has each key
@@ -35,12 +35,12 @@ unfolding holder new_layout
 holds_each K k key = ap (λ t. cond t (Some (first_entry K)) None) (whole_has K k key)
 
 -- and all records
-pub inside_all : {K : ℕ} (rows : List (Record K)) → ((i : ℕ) (d : Record K) → i < length rows → IsKey K (get_or rows i d).key.at) → inside (entries_of rows) (whole K) ≡ entries_of rows
+pub inside_all : {K : ℕ} (rows : List (Record K)) → ((i : ℕ) (d : Record K) → i < length rows → IsKey K (get_or rows i d).key.numbers) → records_inside (pairs_of rows) (whole K) ≡ pairs_of rows
 inside_all [] keys = refl
 inside_all {K} (r ∷ rows) keys =
-    let here : contains (whole K) r.key.at ≡ true = whole_has K r.key.at (keys 0 r (omega arith)) in
-    let rest : inside (entries_of rows) (whole K) ≡ entries_of rows = inside_all rows (λ i d lt. keys (suc i) d (omega (arith, lt))) in
-    ap (λ t. cond t (entry r ∷ inside (entries_of rows) (whole K)) (inside (entries_of rows) (whole K))) here ∙ ap (λ es. entry r ∷ es) rest
+    let here : contains (whole K) r.key.numbers ≡ true = whole_has K r.key.numbers (keys 0 r (omega arith)) in
+    let rest : records_inside (pairs_of rows) (whole K) ≡ pairs_of rows = inside_all rows (λ i d lt. keys (suc i) d (omega (arith, lt))) in
+    ap (λ t. cond t (pair_of r ∷ records_inside (pairs_of rows) (whole K)) (records_inside (pairs_of rows) (whole K))) here ∙ ap (λ es. pair_of r ∷ es) rest
 
 no_boundary : (K a : ℕ) → scale_of (replicate K []) a ≡ []
 no_boundary zero a = refl
@@ -66,13 +66,13 @@ none_below : (n : ℕ) → nat_lt n 0 ≡ false
 none_below n = grind (arith, nat_tests)
 
 module _ (K C : ℕ) where
-  no_candidate : (b : Box K) (keys : List (List ℕ)) → candidates (replicate K []) b.region keys ≡ []
+  no_candidate : (b : BucketBox K) (keys : List (List ℕ)) → candidates (replicate K []) b.region keys ≡ []
   unfolding candidates
   no_candidate b keys =
       none_flat (candidates_in (replicate K []) b.region keys) (below (length {A = List ℕ} (replicate K [])))
       (λ a. ap (λ scale. map (λ v. (a, v)) (filter (λ v. is_within b.region a v && divides keys a v) scale)) (no_boundary K a))
 
-  no_existing : (b : Box K) (keys : List (List ℕ)) → best_existing (replicate K []) b.region keys ≡ None
+  no_existing : (b : BucketBox K) (keys : List (List ℕ)) → best_existing (replicate K []) b.region keys ≡ None
   unfolding best_existing
   no_existing b keys = ap (least (rank keys)) (no_candidate b keys)
 
@@ -85,19 +85,19 @@ module _ (K C : ℕ) where
   no_refinement keys a = ap (λ t. if t then option_map (new_cut a) (best_value keys a) else None) (no_growth a)
 
   -- nothing cuts it
-  pub no_cut : (b : Box K) (keys : List (List ℕ)) → cut (undivided K C) (replicate K []) b keys ≡ None
+  pub no_cut : (b : BucketBox K) (keys : List (List ℕ)) → cut (undivided K C) (replicate K []) b keys ≡ None
   unfolding cut
   no_cut b keys =
       ap (λ o. or_else (option_map old_cut o) (first_some (refinements (undivided K C) (replicate K []) b.turn keys))) (no_existing b keys)
       ∙ none_some (refinement (undivided K C) (replicate K []) keys) (cycle (length {A = List ℕ} (replicate K [])) b.turn) (no_refinement keys)
 
   -- the note of a put: none where the bucket takes the key, and else there is none
-  module _ (t : Table) (k : List ℕ) (key : IsKey K k) (all : inside t (whole K) ≡ t) where
+  module _ (t : Table) (k : List ℕ) (key : IsKey K k) (all : records_inside t (whole K) ≡ t) where
     by_holder : put_note (undivided K C) (new_layout K) t k ≡ put_note_at (undivided K C) (new_layout K) t k (first_box K)
     unfolding put_note
     by_holder = ap (λ o. option_and_then (λ e. put_note_at (undivided K C) (new_layout K) t k e.1) o) (holds_each K k key)
 
-    room : (is_some (get t k) || nat_lt (length (inside t (whole K))) C) ≡ takes C t k
+    room : (is_some (get t k) || nat_lt (length (records_inside t (whole K))) C) ≡ takes C t k
     unfolding takes
     room = ap (λ es. is_some (get t k) || nat_lt (length es) C) all
 
@@ -127,13 +127,13 @@ unfolding queued undivided
 slot_left C s lt = ap (λ t. if t then root s else s) (differ s.used worn_at lt)
 
 -- a put that the bucket takes is done
-pub put_done : {K : ℕ} (C : ℕ) (s : State K) (r : Record K) → s.layout ≡ new_layout K → s.kept ≡ 0 → s.used < worn_at → IsKey K r.key.at → inside s.table (whole K) ≡ s.table → takes C s.table r.key.at ≡ true
+pub put_done : {K : ℕ} (C : ℕ) (s : State K) (r : Record K) → s.layout ≡ new_layout K → s.kept ≡ 0 → s.used < worn_at → IsKey K r.key.numbers → records_inside s.table (whole K) ≡ s.table → takes C s.table r.key.numbers ≡ true
     → lone (undivided K C) s (ask.Put r) ≡ done (first_entry K) (Put r) note.Plain s
 unfolding lone updated change need renewed claimed
 put_done {K} C s r layout kept used key all taken =
     let shape = undivided K C in
-    let held : holder s.layout r.key.at ≡ Some (first_entry K) = ap (λ L. holder L r.key.at) layout ∙ holds_each K r.key.at key in
-    let plain_note : put_note shape s.layout s.table r.key.at ≡ Some note.Plain = ap (λ L. put_note shape L s.table r.key.at) layout ∙ plain K C s.table r.key.at key all taken in
+    let held : holder s.layout r.key.numbers ≡ Some (first_entry K) = ap (λ L. holder L r.key.numbers) layout ∙ holds_each K r.key.numbers key in
+    let plain_note : put_note shape s.layout s.table r.key.numbers ≡ Some note.Plain = ap (λ L. put_note shape L s.table r.key.numbers) layout ∙ plain K C s.table r.key.numbers key all taken in
     let many : nat_lt (free shape s) 2 ≡ false = ap (λ n. nat_lt n 2) (free_there C s layout kept) in
     ap (update_held shape s (Put r)) held
     ∙ ap (put_noted shape s (first_entry K) (Put r)) plain_note
@@ -150,19 +150,19 @@ unfolding new_layout
 no_boundary_of {K} s e = ap (λ (L : Layout K). boundaries L.scales) e ∙ none_in K
 
 -- a put that it does not take is refused
-pub put_refused : {K : ℕ} (C : ℕ) (s : State K) (r : Record K) → s.layout ≡ new_layout K → IsKey K r.key.at → inside s.table (whole K) ≡ s.table → takes C s.table r.key.at ≡ false
+pub put_refused : {K : ℕ} (C : ℕ) (s : State K) (r : Record K) → s.layout ≡ new_layout K → IsKey K r.key.numbers → records_inside s.table (whole K) ≡ s.table → takes C s.table r.key.numbers ≡ false
     → lone (undivided K C) s (ask.Put r) ≡ refused s (NoCut 1 0)
 unfolding lone updated
 put_refused {K} C s r layout key all full =
     let shape = undivided K C in
-    let held : holder s.layout r.key.at ≡ Some (first_entry K) = ap (λ L. holder L r.key.at) layout ∙ holds_each K r.key.at key in
-    let no_note : put_note shape s.layout s.table r.key.at ≡ None = ap (λ L. put_note shape L s.table r.key.at) layout ∙ none K C s.table r.key.at key all full in
+    let held : holder s.layout r.key.numbers ≡ Some (first_entry K) = ap (λ L. holder L r.key.numbers) layout ∙ holds_each K r.key.numbers key in
+    let no_note : put_note shape s.layout s.table r.key.numbers ≡ None = ap (λ L. put_note shape L s.table r.key.numbers) layout ∙ none K C s.table r.key.numbers key all full in
     ap (update_held shape s (Put r)) held
     ∙ ap (put_noted shape s (first_entry K) (Put r)) no_note
     ∙ ap (refused s) (λ i. NoCut (one_cell_of s layout i) (no_boundary_of s layout i))
 
 -- what a put leaves that is done
-pub done_table : {K : ℕ} (r : Record K) (s : State K) → (done (first_entry K) (Put r) note.Plain s).state.table ≡ with_data s.table r.key.at r.value
+pub done_table : {K : ℕ} (r : Record K) (s : State K) → (done (first_entry K) (Put r) note.Plain s).state.table ≡ with_data s.table r.key.numbers r.value
 unfolding published effect
 done_table r s = refl
 

@@ -55,10 +55,10 @@ JudgesPut K capacity page key e = ((e ≡ Damaged 0) × IsDamaged K capacity pag
 
 -- a reply is what a page says of a request: the data at the key of a get, that the page holds a put, or why it refuses
 abbrev pub Judges : {K : ℕ} → ℕ → List ℕ → Request K → Reply K → Type 0
-Judges {K} capacity page (ask.Get k) (reply.Got a) = Answers K capacity page k.at a.value
-Judges {K} capacity page (ask.Get k) (reply.Refused e) = (e ≡ Damaged 0) × IsDamaged K capacity page k.at
-Judges {K} capacity page (ask.Put r) (reply.Put a) = HoldsPut K capacity page r.key.at r.value a.value
-Judges {K} capacity page (ask.Put r) (reply.Refused e) = JudgesPut K capacity page r.key.at e
+Judges {K} capacity page (ask.Get k) (reply.Got a) = Answers K capacity page k.numbers a.value
+Judges {K} capacity page (ask.Get k) (reply.Refused e) = (e ≡ Damaged 0) × IsDamaged K capacity page k.numbers
+Judges {K} capacity page (ask.Put r) (reply.Put a) = HoldsPut K capacity page r.key.numbers r.value a.value
+Judges {K} capacity page (ask.Put r) (reply.Refused e) = JudgesPut K capacity page r.key.numbers e
 Judges _ _ _ _ = ⊥
 
 -- there is one reply of its kind to each line, in order

@@ -6,7 +6,7 @@ use Rattle.grid_types.specs.Pages.{page_of}
 use Rattle.grid_types.specs.declared.shape.Shape.{Shape}
 use Rattle.grid_types.specs.declared.refusal.Refusal.{Refusal}
 use Rattle.grid_types.specs.declared.refusal.Refusal.TheVariants.{ReadFault, WriteFault, Damaged, NoCut, Worn}
-use Rattle.grid_model.specs.Tables.{Table, get, with_data, entries_of}
+use Rattle.grid_model.specs.Tables.{Table, get, with_data, pairs_of}
 use Rattle.grid_model.specs.Layouts.{new_layout}
 use Rattle.grid_model.specs.Lone.{Owners, State, made}
 use Rattle.disk_trait.specs.Causes.{Rose}
@@ -51,16 +51,16 @@ IsDamaged K capacity page key = (b : Bucket K) → IsExpected K capacity page ke
 pub record Answers (K capacity : ℕ) (page key : List ℕ) (value : Option (List ℕ)) : Type 0 where
   pub bucket : Bucket K
   pub expected : IsExpected K capacity page key bucket
-  pub found : value ≡ get (entries_of bucket.rows.items) key
+  pub found : value ≡ get (pairs_of bucket.rows.items) key
 
 -- a page holds a put where it is that of a bucket with the record put, in place of a bucket that had this data at the key
 pub record HoldsPut (K capacity : ℕ) (page key new : List ℕ) (old : Option (List ℕ)) : Type 0 where
   pub is_key : IsKey K key
   pub before : Bucket K
-  pub found : old ≡ get (entries_of before.rows.items) key
-  pub taken : takes capacity (entries_of before.rows.items) key ≡ true
+  pub found : old ≡ get (pairs_of before.rows.items) key
+  pub taken : takes capacity (pairs_of before.rows.items) key ≡ true
   pub after : Bucket K
-  pub rows : entries_of after.rows.items ≡ with_data (entries_of before.rows.items) key new
+  pub rows : pairs_of after.rows.items ≡ with_data (pairs_of before.rows.items) key new
   pub written : page ≡ spelling K after
 
 -- a page is full for a key where it is the expected one, with a bucket that does not take the key
@@ -68,7 +68,7 @@ pub record IsFull (K capacity : ℕ) (page key : List ℕ) : Type 0 where
   pub is_key : IsKey K key
   pub bucket : Bucket K
   pub expected : IsExpected K capacity page key bucket
-  pub full : takes capacity (entries_of bucket.rows.items) key ≡ false
+  pub full : takes capacity (pairs_of bucket.rows.items) key ≡ false
 
 -- an image has a bucket where its page 0 spells it, as bucket 0
 pub record HasBucket (K capacity : ℕ) (image : List ℕ) (b : Bucket K) : Type 0 where
@@ -80,7 +80,7 @@ pub record StandsFor (K capacity : ℕ) (image : List ℕ) (t : Table) : Type 0 
   pub bucket : Bucket K
   pub has : HasBucket K capacity image bucket
   pub whole : (at : List ℕ) → IsKey K at → Within bucket.region.lo bucket.region.hi at
-  pub records : entries_of bucket.rows.items ≡ t
+  pub records : pairs_of bucket.rows.items ≡ t
 
 -- a fault of reading or writing comes only where that count of the disk rose
 abbrev pub IsDiskFault : Refusal → ℕ → ℕ → ℕ → ℕ → Type 0

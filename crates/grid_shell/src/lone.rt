@@ -3,7 +3,7 @@ ghost use Rattle.std.specs.Prelude.{◌≡◌, ◌≢◌, ◌≤◌, ◌<◌, �
 ghost use Rattle.grid_types.specs.Keys.{IsKey};
 ghost use Rattle.grid_types.specs.Regions.{Within};
 ghost use Rattle.grid_types.specs.declared.refusal.Refusal.TheVariants.{ReadFault, WriteFault, Damaged, NoCut, Worn};
-ghost use Rattle.grid_model.specs.Tables.{Table, get, with_data, entries_of};
+ghost use Rattle.grid_model.specs.Tables.{Table, get, with_data, pairs_of};
 ghost use Rattle.disk_trait.specs.Causes.{HasCause, Rose};
 ghost use Rattle.bucket_page.specs.declared.bucket.Bucket.{Bucket};
 ghost use Rattle.bucket_page.specs.Spelling.{IsBucket, spelling};
@@ -41,7 +41,7 @@ pub struct OpenFault<D: Disk> {
 
 /// The data that a bucket has at a key.
 fn data_at<const K: usize>(bucket: &Bucket<K>, key: &Key<K>) -> Option<Data>
-    ensures { result ≡ get (entries_of bucket.now.rows.items) key.now.at }
+    ensures { result ≡ get (pairs_of bucket.now.rows.items) key.now.numbers }
 {
     match bucket.find(key) {
         Some(at) => Some(bucket.rows.as_slice()[at].value.copy()),
@@ -51,7 +51,7 @@ fn data_at<const K: usize>(bucket: &Bucket<K>, key: &Key<K>) -> Option<Data>
 
 /// Whether a bucket of this capacity has the key, or has room for it.
 fn has_place<const K: usize>(bucket: &Bucket<K>, key: &Key<K>, capacity: u16) -> bool
-    ensures { result ≡ takes capacity (entries_of bucket.now.rows.items) key.now.at }
+    ensures { result ≡ takes capacity (pairs_of bucket.now.rows.items) key.now.numbers }
 {
     match bucket.find(key) {
         Some(_) => true,
@@ -67,11 +67,11 @@ fn put_within<const K: usize>(
 ) -> Option<Option<Data>>
     requires lawful { capacity ≤ 48 }
     requires bucket { IsBucket K capacity bucket.old }
-    ensures taken { is_some result ≡ takes capacity (entries_of bucket.old.rows.items) row.now.key.at }
-    ensures old { IfSome result (λ value. value ≡ get (entries_of bucket.old.rows.items) row.now.key.at) }
-    ensures rows { OnSome result (entries_of bucket.new.rows.items ≡ with_data (entries_of bucket.old.rows.items) row.now.key.at row.now.value) }
+    ensures taken { is_some result ≡ takes capacity (pairs_of bucket.old.rows.items) row.now.key.numbers }
+    ensures old { IfSome result (λ value. value ≡ get (pairs_of bucket.old.rows.items) row.now.key.numbers) }
+    ensures rows { OnSome result (pairs_of bucket.new.rows.items ≡ with_data (pairs_of bucket.old.rows.items) row.now.key.numbers row.now.value) }
     ensures count { OnSome result (length bucket.new.rows.items ≤ capacity) }
-    ensures bucket { OnSome result (Within bucket.old.region.lo bucket.old.region.hi row.now.key.at → IsBucket K capacity bucket.new) }
+    ensures bucket { OnSome result (Within bucket.old.region.lo bucket.old.region.hi row.now.key.numbers → IsBucket K capacity bucket.new) }
     ensures number { OnSome result (bucket.new.number ≡ bucket.old.number) }
     ensures region { OnSome result (bucket.new.region ≡ bucket.old.region) }
 {
@@ -125,11 +125,11 @@ impl<D: Disk> Lone<D> {
         requires { K ≤ 4 }
         ensures ticks { steps.new ≡ steps.old + 1 }
         ensures lawful { IfOk result (λ b. IsBucket K self.old.capacity b) }
-        ensures key { OnOk result (IsKey K key.now.at) }
-        ensures expected { IfOk result (λ b. IsExpected K self.old.capacity self.new.page key.now.at b) }
-        ensures damaged { IsErrOf result (Damaged 0) → IsDamaged K self.old.capacity self.new.page key.now.at }
+        ensures key { OnOk result (IsKey K key.now.numbers) }
+        ensures expected { IfOk result (λ b. IsExpected K self.old.capacity self.new.page key.now.numbers b) }
+        ensures damaged { IsErrOf result (Damaged 0) → IsDamaged K self.old.capacity self.new.page key.now.numbers }
         ensures found { IsTrue (D.honest self.old.disk)
-            → IfOk result (λ b. HasBucket K self.old.capacity (D.seen self.old.disk) b × Within b.region.lo b.region.hi key.now.at) }
+            → IfOk result (λ b. HasBucket K self.old.capacity (D.seen self.old.disk) b × Within b.region.lo b.region.hi key.now.numbers) }
         ensures only { IsTrue (D.honest self.old.disk) → (b : Bucket K) → HasBucket K self.old.capacity (D.seen self.old.disk) b
             → IfOk result (λ r. r ≡ b) }
         ensures bytes { IsTrue (D.honest self.old.disk) → (IsErrOf result ReadFault → ⊥) → self.new.page ≡ page_of 0 (D.seen self.old.disk) }
@@ -185,9 +185,9 @@ impl<D: Disk> Lone<D> {
         requires { K ≤ 4 }
         ensures at { IfOk result (λ a. a.at ≡ self.old.front) }
         ensures value { IsTrue (D.honest self.old.disk) → (t : Table) → StandsFor K self.old.capacity (D.seen self.old.disk) t
-            → IfOk result (λ a. a.value ≡ get t key.now.at) }
-        ensures answers { IfOk result (λ a. Answers K self.old.capacity self.new.page key.now.at a.value) }
-        ensures damaged { IsErrOf result (Damaged 0) → IsDamaged K self.old.capacity self.new.page key.now.at }
+            → IfOk result (λ a. a.value ≡ get t key.now.numbers) }
+        ensures answers { IfOk result (λ a. Answers K self.old.capacity self.new.page key.now.numbers a.value) }
+        ensures damaged { IsErrOf result (Damaged 0) → IsDamaged K self.old.capacity self.new.page key.now.numbers }
         ensures undamaged { IsTrue (D.honest self.old.disk) → IsErrOf result (Damaged 0) → (t : Table)
             → StandsFor K self.old.capacity (D.seen self.old.disk) t → ⊥ }
         ensures bytes { IsTrue (D.honest self.old.disk) → (IsErrOf result ReadFault → ⊥) → self.new.page ≡ page_of 0 (D.seen self.old.disk) }
@@ -219,18 +219,18 @@ impl<D: Disk> Lone<D> {
         requires { K ≤ 4 }
         ensures at { IfOk result (λ a. a.at ≡ self.old.front + 1) }
         ensures value { IsTrue (D.honest self.old.disk) → (t : Table) → StandsFor K self.old.capacity (D.seen self.old.disk) t
-            → IfOk result (λ a. a.value ≡ get t row.now.key.at) }
+            → IfOk result (λ a. a.value ≡ get t row.now.key.numbers) }
         ensures taken { IsTrue (D.honest self.old.disk) → (t : Table) → StandsFor K self.old.capacity (D.seen self.old.disk) t
-            → OnOk result (takes self.old.capacity t row.now.key.at ≡ true) }
+            → OnOk result (takes self.old.capacity t row.now.key.numbers ≡ true) }
         ensures stands { IsTrue (D.honest self.old.disk) → (t : Table) → StandsFor K self.old.capacity (D.seen self.old.disk) t
-            → OnOk result (StandsFor K self.old.capacity (D.seen self.new.disk) (with_data t row.now.key.at row.now.value)) }
+            → OnOk result (StandsFor K self.old.capacity (D.seen self.new.disk) (with_data t row.now.key.numbers row.now.value)) }
         ensures found { IsTrue (D.honest self.old.disk)
-            → IfOk result (λ a. Answers K self.old.capacity (page_of 0 (D.seen self.old.disk)) row.now.key.at a.value) }
+            → IfOk result (λ a. Answers K self.old.capacity (page_of 0 (D.seen self.old.disk)) row.now.key.numbers a.value) }
         ensures no_cut { IsTrue (D.honest self.old.disk) → (t : Table) → StandsFor K self.old.capacity (D.seen self.old.disk) t
-            → IsErrOf result (NoCut 1 0) → takes self.old.capacity t row.now.key.at ≡ false }
-        ensures holds { IfOk result (λ a. HoldsPut K self.old.capacity self.new.page row.now.key.at row.now.value a.value) }
-        ensures full { IsErrOf result (NoCut 1 0) → IsFull K self.old.capacity self.new.page row.now.key.at }
-        ensures damaged { IsErrOf result (Damaged 0) → IsDamaged K self.old.capacity self.new.page row.now.key.at }
+            → IsErrOf result (NoCut 1 0) → takes self.old.capacity t row.now.key.numbers ≡ false }
+        ensures holds { IfOk result (λ a. HoldsPut K self.old.capacity self.new.page row.now.key.numbers row.now.value a.value) }
+        ensures full { IsErrOf result (NoCut 1 0) → IsFull K self.old.capacity self.new.page row.now.key.numbers }
+        ensures damaged { IsErrOf result (Damaged 0) → IsDamaged K self.old.capacity self.new.page row.now.key.numbers }
         ensures undamaged { IsTrue (D.honest self.old.disk) → IsErrOf result (Damaged 0) → (t : Table)
             → StandsFor K self.old.capacity (D.seen self.old.disk) t → ⊥ }
         ensures bytes { IsTrue (D.honest self.old.disk)

@@ -9,7 +9,7 @@ use std::cmp::Ordering;
 /// lexicographically, the first attribute first.
 #[derive(Clone, Copy, Debug, Default, PartialEq, Eq, PartialOrd, Ord)]
 pub struct Key<const K: usize> {
-    pub at: [u64; K],
+    pub numbers: [u64; K],
 }
 
 /// The same numbers. Behind a slice each is known to be in its type's range.
@@ -23,17 +23,17 @@ fn in_range(numbers: &[u64]) -> &[u64]
 impl<const K: usize> Key<K> {
     /// The key's numbers, by attribute.
     pub fn numbers(&self) -> &[u64]
-        ensures value { result.now ≡ self.now.at }
-        ensures key { IsKey K self.now.at }
+        ensures value { result.now ≡ self.now.numbers }
+        ensures key { IsKey K self.now.numbers }
     {
-        in_range(&self.at)
+        in_range(&self.numbers)
     }
 
     /// Whether this key stands before the other one.
     pub fn is_below(&self, other: &Key<K>) -> bool
-        ensures { IsTrue result ↔ (key_cmp self.now.at other.now.at ≡ Less) }
+        ensures { IsTrue result ↔ (key_cmp self.now.numbers other.now.numbers ≡ Less) }
     {
-        matches!(self.at.cmp(&other.at), Ordering::Less)
+        matches!(self.numbers.cmp(&other.numbers), Ordering::Less)
     }
 }
 

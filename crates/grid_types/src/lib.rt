@@ -4,10 +4,10 @@
 
 mod answer;
 mod data;
+mod geometry;
 mod half;
 mod key;
-mod layout;
-mod note;
+mod layout_change;
 mod page_list;
 mod query;
 mod refusal;
@@ -20,10 +20,10 @@ mod words;
 
 pub use answer::Answer;
 pub use data::Data;
+pub use geometry::Geometry;
 pub use half::Half;
 pub use key::{Key, key_order};
-pub use layout::Layout;
-pub use note::{Cut, NoteOf, Noted};
+pub use layout_change::{Cut, LayoutChange, LoggedUpdate};
 pub use page_list::PageList;
 pub use query::{Query, Side};
 pub use refusal::Refusal;

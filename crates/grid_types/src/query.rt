@@ -78,8 +78,8 @@ impl<const K: usize> Query<K> {
 
     /// Whether the query asks for that key.
     pub fn admits(&self, key: &Key<K>) -> bool
-        ensures { result ≡ matches self.now.sides key.now.at }
+        ensures { result ≡ matches self.now.sides key.now.numbers }
     {
-        all_admit(&self.sides, &key.at)
+        all_admit(&self.sides, &key.numbers)
     }
 }

@@ -48,11 +48,11 @@ impl<const K: usize> Region<K> {
 
     /// Whether the region has the key.
     pub fn contains(&self, key: &Key<K>) -> bool
-        ensures value { result ≡ contains self.now key.now.at }
-        ensures within { IsTrue result ↔ Within self.now.lo self.now.hi key.now.at }
-        ensures key { IsKey K key.now.at }
+        ensures value { result ≡ contains self.now key.now.numbers }
+        ensures within { IsTrue result ↔ Within self.now.lo self.now.hi key.now.numbers }
+        ensures key { IsKey K key.now.numbers }
     {
         let _numbers = key.numbers();
-        all_between(&self.lo, &key.at, &self.hi)
+        all_between(&self.lo, &key.numbers, &self.hi)
     }
 }

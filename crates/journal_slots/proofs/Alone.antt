@@ -2,15 +2,15 @@
 use Rattle.std.proofs.Common.{◌≡◌, ◌≤◌, ◌+◌, ◌*◌, ℕ, Bool, true, false, List, length, drop, get_or, slice_index, refl, sym, ap, subst, ◌∙◌, arith}
 use Rattle.std.specs.Prelude.{cond}
 use Rattle.std.proofs.lemmas.List.{same_lists}
-use Rattle.grid_types.specs.declared.note.Cut.{Cut}
-use Rattle.grid_types.specs.declared.note.NoteOf.{NoteOf}
-use Rattle.grid_types.specs.declared.note.NoteOf.TheVariants as note
-use Rattle.grid_types.specs.declared.note.Noted.{Noted}
+use Rattle.grid_types.specs.declared.layout_change.Cut.{Cut}
+use Rattle.grid_types.specs.declared.layout_change.LayoutChange.{LayoutChange}
+use Rattle.grid_types.specs.declared.layout_change.LayoutChange.TheVariants as note
+use Rattle.grid_types.specs.declared.layout_change.LoggedUpdate.{LoggedUpdate}
 use Rattle.grid_types.specs.declared.update.Update.{Update}
 use Rattle.grid_types.specs.declared.update.Update.TheVariants.{Put, Remove}
 use Rattle.page_fields.proofs.Places.{one_corner}
 use Rattle.grid_model.proofs.Corners.{corner-is-key, few-taken}
-use Rattle.grid_model.specs.Spellings.{Batch}
+use Rattle.grid_model.specs.Spellings.{LoggedBatch}
 use Rattle.grid_model.specs.Lawful.{IsUpdateOf, StandsWith, IsBatch}
 use Rattle.journal_slots.specs.Reading.{CutAt, NoteAt, ChangeAt, NotedAt, BatchAt, NoteFits, IsLawful}
 
@@ -36,7 +36,7 @@ one_cut page at c d right other x y =
     let bucket : right ≡ other = x.bucket ∙ sym y.bucket in
     λ i. note.Cut (record { attribute = attribute i; value = value i; fresh = fresh i }) (bucket i)
 
-one_note : (page : List ℕ) (at : ℕ) (n m : NoteOf) → NoteAt page at n → NoteAt page at m → n ≡ m
+one_note : (page : List ℕ) (at : ℕ) (n m : LayoutChange) → NoteAt page at n → NoteAt page at m → n ≡ m
 one_note page at note.Plain note.Plain x y = refl
 one_note page at note.Plain (note.Cut d other) x y = let k = no_cut d.fresh (slice_index page (at + 1)) y.kind in absurd (omega (arith, x, k.0))
 one_note page at note.Plain (note.Merge m) x y = absurd (omega (arith, x, y.kind))
@@ -49,22 +49,22 @@ one_note page at (note.Merge m) (note.Merge k) x y = ap note.Merge (x.bucket ∙
 
 one_change : (K : ℕ) (page : List ℕ) (at : ℕ) (u v : Update K) → ChangeAt K page at u → ChangeAt K page at v → u ≡ v
 one_change K page at (Put r) (Put s) x y =
-    let key : r.key.at ≡ s.key.at = one_corner K page (at + 16) s.key.at r.key.at y.key x.key in
+    let key : r.key.numbers ≡ s.key.numbers = one_corner K page (at + 16) s.key.numbers r.key.numbers y.key x.key in
     let value : r.value ≡ s.value = x.value ∙ sym y.value in
-    λ i. Put (record { key = record { at = key i }; value = value i })
+    λ i. Put (record { key = record { numbers = key i }; value = value i })
 one_change K page at (Put r) (Remove k) x y = absurd (omega (arith, x.kind, y.kind))
 one_change K page at (Remove k) (Put r) x y = absurd (omega (arith, x.kind, y.kind))
 one_change K page at (Remove k) (Remove m) x y =
-    let key : k.at ≡ m.at = one_corner K page (at + 16) m.at k.at y.key_is x.key_is in
-    λ i. Remove (record { at = key i })
+    let key : k.numbers ≡ m.at = one_corner K page (at + 16) m.at k.numbers y.key_is x.key_is in
+    λ i. Remove (record { numbers = key i })
 
-one_noted : (K : ℕ) (page : List ℕ) (at : ℕ) (u v : Noted K) → NotedAt K page at u → NotedAt K page at v → u ≡ v
+one_noted : (K : ℕ) (page : List ℕ) (at : ℕ) (u v : LoggedUpdate K) → NotedAt K page at u → NotedAt K page at v → u ≡ v
 one_noted K page at u v x y =
     let update : u.update ≡ v.update = one_change K page at u.update v.update x.update y.update in
     let note : u.note ≡ v.note = one_note page at u.note v.note x.note y.note in
     λ i. record { update = update i; note = note i }
 
-pub one_batch : (K : ℕ) (page : List ℕ) (a b : Batch K) → BatchAt K page a → BatchAt K page b → a ≡ b
+pub one_batch : (K : ℕ) (page : List ℕ) (a b : LoggedBatch K) → BatchAt K page a → BatchAt K page b → a ≡ b
 one_batch K page a b x y =
     let session : a.session ≡ b.session = x.session ∙ sym y.session in
     let first : a.first ≡ b.first = x.first ∙ sym y.first in
@@ -76,12 +76,12 @@ one_batch K page a b x y =
 -- lawful fields
 change_fits : (K : ℕ) (page : List ℕ) (at : ℕ) (u : Update K) → ChangeAt K page at u → IsUpdateOf K u
 change_fits K page at (Put r) x = record {
-  key = corner-is-key K page (at + 16) r.key.at x.key;
+  key = corner-is-key K page (at + 16) r.key.numbers x.key;
   value = subst (λ (v : List ℕ). length v ≤ 40) (sym x.value) (few-taken (slice_index page (at + 3)) 40 (drop (at + 48) page) x.short);
 }
-change_fits K page at (Remove k) x = record { key = corner-is-key K page (at + 16) k.at x.key_is; value = omega arith }
+change_fits K page at (Remove k) x = record { key = corner-is-key K page (at + 16) k.numbers x.key_is; value = omega arith }
 
-note_fits : (K : ℕ) (page : List ℕ) (at : ℕ) (u : Update K) (n : NoteOf) → NoteAt page at n → NoteFits u n → StandsWith u n
+note_fits : (K : ℕ) (page : List ℕ) (at : ℕ) (u : Update K) (n : LayoutChange) → NoteAt page at n → NoteFits u n → StandsWith u n
 note_fits K page at u note.Plain x f = tt
 note_fits K page at (Put r) (note.Cut c right) x f = (f, x.in_range, x.bucket_in_range)
 note_fits K page at (Remove k) (note.Cut c right) x f = absurd f
@@ -89,7 +89,7 @@ note_fits K page at (Put r) (note.Merge m) x f = absurd f
 note_fits K page at (Remove k) (note.Merge m) x f = x.bucket_in_range
 
 -- a batch that stands in a page is lawful where its fields are
-pub made : (K : ℕ) (page : List ℕ) (b : Batch K) → BatchAt K page b → length b.updates ≤ 16 → IsLawful b → IsBatch b
+pub made : (K : ℕ) (page : List ℕ) (b : LoggedBatch K) → BatchAt K page b → length b.updates ≤ 16 → IsLawful b → IsBatch b
 made K page b read few lawful = record {
   some = lawful.some;
   few = few;
@@ -104,7 +104,7 @@ made K page b read few lawful = record {
       };
 }
 
-fits_there : {K : ℕ} (u : Update K) (n : NoteOf) → StandsWith u n → NoteFits u n
+fits_there : {K : ℕ} (u : Update K) (n : LayoutChange) → StandsWith u n → NoteFits u n
 fits_there (Put r) note.Plain s = tt
 fits_there (Remove k) note.Plain s = tt
 fits_there (Put r) (note.Cut c right) s = s.0
@@ -112,5 +112,5 @@ fits_there (Remove k) (note.Cut c right) s = s
 fits_there (Put r) (note.Merge m) s = s
 fits_there (Remove k) (note.Merge m) s = tt
 
-pub lawful_of : {K : ℕ} (b : Batch K) → IsBatch b → IsLawful b
+pub lawful_of : {K : ℕ} (b : LoggedBatch K) → IsBatch b → IsLawful b
 lawful_of b fits = record { some = fits.some; first = fits.first; last = fits.last; notes = λ i d h. fits_there (get_or b.updates i d).update (get_or b.updates i d).note (fits.updates i d h).note }

@@ -6,7 +6,7 @@ use Rattle.page_fields.specs.Padded.{padded}
 use Rattle.page_fields.proofs.BytesOf.{length-bytes_of, filled_with}
 use Rattle.page_fields.proofs.Places.{behind}
 use Rattle.page_fields.proofs.ZeroParts.{zeros_are, zeros_spelled, zeros_to_end}
-use Rattle.grid_model.specs.Spellings.{page, gate_page}
+use Rattle.grid_model.specs.Spellings.{page, gate_spelling}
 use Rattle.journal_slots.specs.Gates.{gates_in, IsGateHead}
 
 -- the head of a gate page
@@ -16,8 +16,8 @@ gate_head half = padded 96 (codes "GFG1" ++ bytes_of 4 half)
 pub gate_head_is : (half : ℕ) → gate_head half ≡ codes "GFG1" ++ (bytes_of 4 half ++ replicate 88 0)
 gate_head_is half = filled_with 96 88 (codes "GFG1" ++ bytes_of 4 half) (omega (arith, length-bytes_of 4 half)) ∙ simp append_assoc
 
-pub gate_page_is : (half : ℕ) (gates : List ℕ) → gate_page half gates ≡ gate_head half ++ padded 4000 gates
-unfolding gate_page page
+pub gate_page_is : (half : ℕ) (gates : List ℕ) → gate_spelling half gates ≡ gate_head half ++ padded 4000 gates
+unfolding gate_spelling page
 gate_page_is half gates = refl
 
 pub length-gate_head : (half : ℕ) → length (gate_head half) ≡ 96
@@ -31,7 +31,7 @@ half_bytes (suc zero) two = refl
 half_bytes (suc (suc half)) two = absurd (omega (arith, two))
 
 -- a page with that head, and zeros behind so many gates, is the gate page of its gates
-pub gates_joined : (half slots : ℕ) (bytes : List ℕ) → half < 2 → slots ≤ 4000 → length bytes ≡ 4096 → IsGateHead half bytes → AreZeros (96 + slots) 4096 bytes → bytes ≡ gate_page half (gates_in slots bytes)
+pub gates_joined : (half slots : ℕ) (bytes : List ℕ) → half < 2 → slots ≤ 4000 → length bytes ≡ 4096 → IsGateHead half bytes → AreZeros (96 + slots) 4096 bytes → bytes ≡ gate_spelling half (gates_in slots bytes)
 unfolding padded
 gates_joined half slots bytes two few long h zeros =
     let gates = gates_in slots bytes in
@@ -47,7 +47,7 @@ gates_joined half slots bytes two few long h zeros =
     fields ∙ joined ∙ ap (λ (f : List ℕ). f ++ padded 4000 gates) (sym (gate_head_is half)) ∙ sym (gate_page_is half gates)
 
 -- what stands in a gate page
-module _ (half : ℕ) (gates bytes : List ℕ) (e : bytes ≡ gate_page half gates) where
+module _ (half : ℕ) (gates bytes : List ℕ) (e : bytes ≡ gate_spelling half gates) where
   at0 : bytes ≡ codes "GFG1" ++ (bytes_of 4 half ++ (replicate 88 0 ++ padded 4000 gates))
   at0 = e ∙ gate_page_is half gates ∙ ap (λ (f : List ℕ). f ++ padded 4000 gates) (gate_head_is half) ∙ simp append_assoc
 

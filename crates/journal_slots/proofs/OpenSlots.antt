@@ -13,7 +13,7 @@ use Rattle.grid_types.specs.Pages.{page_of}
 use Rattle.grid_types.specs.Shapes as places
 use Rattle.page_fields.proofs.Steps.{below_or_at}
 use Rattle.grid_model.specs.Lists.{below}
-use Rattle.grid_model.specs.Spellings.{Batch}
+use Rattle.grid_model.specs.Spellings.{LoggedBatch}
 use Rattle.grid_model.specs.Images.{SpellsBatch, of_session}
 use Rattle.journal_slots.specs.Scans.{AreBatchesOn, SpellsSome, IsMore}
 
@@ -67,7 +67,7 @@ open_few gates half n =
 
 module _ {K : ℕ} (s : Shape) (image : List ℕ) (session : ℕ) where
   -- a slot more, and the batch that its page spells
-  pub one_more : (slots : List (ℕ × ℕ)) (half slot : ℕ) (batches more : List (Batch K)) (b : Batch K) → AreBatchesOn s image slots session batches → SpellsBatch (page_of (places.slot_page s half slot) image) b → more ≡ batches ++ of_session session (b ∷ [])
+  pub one_more : (slots : List (ℕ × ℕ)) (half slot : ℕ) (batches more : List (LoggedBatch K)) (b : LoggedBatch K) → AreBatchesOn s image slots session batches → SpellsBatch (page_of (places.slot_page s half slot) image) b → more ≡ batches ++ of_session session (b ∷ [])
       → AreBatchesOn s image (slots ++ (half, slot) ∷ []) session more
   one_more slots half slot batches more b had spelled e = record {
     all = had.all ++ b ∷ [];
@@ -80,22 +80,22 @@ module _ {K : ℕ} (s : Shape) (image : List ℕ) (session : ℕ) where
         ]
         | inr new ↦ elim (last_or_within had.all b c i f) [
           | inl was ↦ absurd (omega (arith, slice_get_within had.all i c was, new.0, had.each.count))
-          | inr at ↦ subst (λ (d : Batch K). SpellsBatch (page_of (places.slot_page s t.0 t.1) image) d) at.1 (subst (λ (u : ℕ × ℕ). SpellsBatch (page_of (places.slot_page s u.0 u.1) image) b) new.1 spelled)
+          | inr at ↦ subst (λ (d : LoggedBatch K). SpellsBatch (page_of (places.slot_page s t.0 t.1) image) d) at.1 (subst (λ (u : ℕ × ℕ). SpellsBatch (page_of (places.slot_page s u.0 u.1) image) b) new.1 spelled)
         ]
       ];
     };
-    are = e ∙ ap (λ (bs : List (Batch K)). bs ++ of_session session (b ∷ [])) had.are ∙ sym (filter-append (λ (x : Batch K). x.session == session) had.all (b ∷ []));
+    are = e ∙ ap (λ (bs : List (LoggedBatch K)). bs ++ of_session session (b ∷ [])) had.are ∙ sym (filter-append (λ (x : LoggedBatch K). x.session == session) had.all (b ∷ []));
   }
 
   -- what a scan has found, once it has passed an open slot
-  pub found_more : (gates : List ℕ) (half slot page : ℕ) (seen : List ℕ) (batches more : List (Batch K)) → seen ≡ image → page ≡ places.slot_page s half slot → slice_index gates slot ≡ 1 → IsMore (page_of page seen) session batches more
+  pub found_more : (gates : List ℕ) (half slot page : ℕ) (seen : List ℕ) (batches more : List (LoggedBatch K)) → seen ≡ image → page ≡ places.slot_page s half slot → slice_index gates slot ≡ 1 → IsMore (page_of page seen) session batches more
       → AreBatchesOn s image (open_below gates half slot) session batches → AreBatchesOn s image (open_below gates half (slot + 1)) session more
   found_more gates half slot page seen batches more same is one m had =
       let bytes : page_of page seen ≡ page_of (places.slot_page s half slot) image = λ i. page_of (is i) (same i) in
       subst (λ (slots : List (ℕ × ℕ)). AreBatchesOn s image slots session more) (sym (open_more gates half slot one))
       (one_more (open_below gates half slot) half slot batches more m.batch had (subst (λ (b : List ℕ). SpellsBatch b m.batch) bytes m.spelled) m.are)
 
-  pub before_more : (gates : List ℕ) (half slot page : ℕ) (seen : List ℕ) (batches more : List (Batch K)) → seen ≡ image → page ≡ places.slot_page s half slot → IsMore (page_of page seen) session batches more
+  pub before_more : (gates : List ℕ) (half slot page : ℕ) (seen : List ℕ) (batches more : List (LoggedBatch K)) → seen ≡ image → page ≡ places.slot_page s half slot → IsMore (page_of page seen) session batches more
       → ((i : ℕ) → i < slot → slice_index gates i ≡ 1 → SpellsSome K (page_of (places.slot_page s half i) image)) → (i : ℕ) → i < slot + 1 → slice_index gates i ≡ 1 → SpellsSome K (page_of (places.slot_page s half i) image)
   before_more gates half slot page seen batches more same is m before i lt one = elim (below_or_at i slot lt) [
     | inl low ↦ before i low one

@@ -1,13 +1,13 @@
 -- The gates of a half in the bytes of a page.
 use Rattle.std.specs.Prelude.{◌≡◌, ◌∷◌, [], ℕ, List, length, take, drop}
 use Rattle.page_fields.specs.Fields.{AreZeros}
-use Rattle.grid_model.specs.Spellings.{gate_page}
+use Rattle.grid_model.specs.Spellings.{gate_spelling}
 
 -- a page is the gate page of a half with so many slots: there are as many gates that it spells
 pub record IsGatePage (half slots : ℕ) (page : List ℕ) : Type 0 where
   pub gates : List ℕ
   pub count : length gates ≡ slots
-  pub spelled : page ≡ gate_page half gates
+  pub spelled : page ≡ gate_spelling half gates
 
 -- the gates of so many slots in a page
 abbrev pub gates_in : ℕ → List ℕ → List ℕ

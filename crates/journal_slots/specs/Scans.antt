@@ -5,24 +5,24 @@ use Rattle.grid_types.specs.declared.refusal.Refusal.{Refusal}
 use Rattle.grid_types.specs.declared.refusal.Refusal.TheVariants as refusal
 use Rattle.grid_types.specs.Pages.{page_of}
 use Rattle.grid_types.specs.Shapes as places
-use Rattle.grid_model.specs.Spellings.{Batch}
+use Rattle.grid_model.specs.Spellings.{LoggedBatch}
 use Rattle.grid_model.specs.Images.{HasGatesOf, SpellsBatch, open_slots_of, HasBatches, of_session}
 
 -- these are the batches of a session on some slots: each of the slots spells a batch, and of these they are those of the session
-pub record AreBatchesOn {K : ℕ} (s : Shape) (image : List ℕ) (slots : List (ℕ × ℕ)) (session : ℕ) (batches : List (Batch K)) : Type 0 where
-  pub all : List (Batch K)
+pub record AreBatchesOn {K : ℕ} (s : Shape) (image : List ℕ) (slots : List (ℕ × ℕ)) (session : ℕ) (batches : List (LoggedBatch K)) : Type 0 where
+  pub all : List (LoggedBatch K)
   pub each : HasBatches s image slots all
   pub are : batches ≡ of_session session all
 
 -- a scan of a half for a session finds these batches: its gate page is spelled, and they are the session's on its open slots, in order
-pub record IsScan {K : ℕ} (s : Shape) (image : List ℕ) (half session : ℕ) (batches : List (Batch K)) : Type 0 where
+pub record IsScan {K : ℕ} (s : Shape) (image : List ℕ) (half session : ℕ) (batches : List (LoggedBatch K)) : Type 0 where
   pub gates : List ℕ
   pub spelled : HasGatesOf s image half gates
   pub found : AreBatchesOn s image (open_slots_of gates half) session batches
 
 -- a slot's page spells some batch of K attributes
 pub record SpellsSome (K : ℕ) (bytes : List ℕ) : Type 0 where
-  pub batch : Batch K
+  pub batch : LoggedBatch K
   pub spelled : SpellsBatch bytes batch
 
 -- a page is the first bad one of the open slots: the page of an open slot that spells no batch, where each open slot before it spells one
@@ -50,8 +50,8 @@ abbrev pub IsFirstBad : (K : ℕ) → Shape → List ℕ → ℕ → ℕ → Typ
 IsFirstBad K s image half page = IsBadGates s image half page ⊎ IsBadSlot K s image half page
 
 -- a page spells a batch, and after it these batches are those from before, with that one behind them where it is of the session
-pub record IsMore {K : ℕ} (bytes : List ℕ) (session : ℕ) (before after : List (Batch K)) : Type 0 where
-  pub batch : Batch K
+pub record IsMore {K : ℕ} (bytes : List ℕ) (session : ℕ) (before after : List (LoggedBatch K)) : Type 0 where
+  pub batch : LoggedBatch K
   pub spelled : SpellsBatch bytes batch
   pub are : after ≡ before ++ of_session session (batch ∷ [])
 
@@ -61,7 +61,7 @@ IsRefusalOfScan e = (e ≡ refusal.ReadFault) ⊎ ((e ≡ refusal.NoMemory) ⊎ 
 
 -- a page spells a batch of a session
 pub record SpellsOf (K : ℕ) (bytes : List ℕ) (session : ℕ) : Type 0 where
-  pub batch : Batch K
+  pub batch : LoggedBatch K
   pub spelled : SpellsBatch bytes batch
   pub of : batch.session ≡ session
 

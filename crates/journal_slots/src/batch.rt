@@ -1,7 +1,7 @@
 //! Batches.
 
 use arrayvec::ArrayVec;
-use grid_types::Noted;
+use grid_types::LoggedUpdate;
 
 /// Up to 16 updates that count together or not at all, in the order of their places.
 #[derive(Drop)]
@@ -10,5 +10,5 @@ pub struct Batch<const K: usize> {
     pub session: u64,
     /// The place of the first update.
     pub first: u64,
-    pub updates: ArrayVec<Noted<K>, 16>,
+    pub updates: ArrayVec<LoggedUpdate<K>, 16>,
 }

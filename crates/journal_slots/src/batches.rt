@@ -17,7 +17,7 @@ impl<const K: usize> Model for Batches<K> {
     ghost use Rattle.grid_model.specs.Spellings as model;
     ghost use Rattle.journal_slots.specs.Batches.{batch_of};
 
-    ghost Value = { List (model.Batch K) };
+    ghost Value = { List (model.LoggedBatch K) };
 
     ghost view = { λ b. map batch_of b.list.items };
 }

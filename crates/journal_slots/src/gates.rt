@@ -1,6 +1,6 @@
 //! The gate page of a half of the journal. The gate of slot i is the byte at 96 + i.
 ghost use Rattle.std.specs.Prelude.{◌≡◌, ◌<◌, ◌≤◌, ◌↔◌, IsTrue, length};
-ghost use Rattle.grid_model.specs.Spellings.{gate_page};
+ghost use Rattle.grid_model.specs.Spellings.{gate_spelling};
 ghost use Rattle.journal_slots.specs.Gates.{IsGatePage, IsGateHead, gates_in};
 
 use page_fields::{put_bytes, put_zeros, set_u32, zeros};
@@ -15,7 +15,7 @@ pub fn is_open(gate: u8) -> bool
 /// Makes `page` the gate page of a half with these gates, whatever it was before.
 pub fn encode_gates(half: u8, gates: &[u8], page: &mut [u8; 4096])
     requires few { length gates.now ≤ 4000 }
-    ensures { page.new ≡ gate_page half gates.now }
+    ensures { page.new ≡ gate_spelling half gates.now }
 {
     put_bytes(page, 0, b"GFG1");
     set_u32(page, 4, half as u32);
@@ -36,7 +36,7 @@ pub fn is_gate_page(page: &[u8; 4096], half: u8, slots: u32) -> bool
     requires two { half < 2 }
     requires few { slots ≤ 4000 }
     ensures judged { IsTrue result ↔ IsGatePage half slots page.now }
-    ensures gates { IsTrue result → page.now ≡ gate_page half (gates_in slots page.now) }
+    ensures gates { IsTrue result → page.now ≡ gate_spelling half (gates_in slots page.now) }
 {
     has_head(page, half) && zeros(page, 96 + slots as usize, 4096)
 }

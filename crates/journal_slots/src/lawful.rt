@@ -4,29 +4,29 @@ ghost use Rattle.journal_slots.specs.Batches.{batch_of};
 ghost use Rattle.journal_slots.specs.Reading.{NoteFits, AllNotesFit, IsLawful};
 
 use crate::Batch;
-use grid_types::{NoteOf, Noted, Update};
+use grid_types::{LayoutChange, LoggedUpdate, Update};
 
 /// The last place at which a batch may begin.
 const LAST: u64 = 9_223_372_036_854_775_792;
 
-fn fits<const K: usize>(noted: &Noted<K>) -> bool
+fn fits<const K: usize>(noted: &LoggedUpdate<K>) -> bool
     ensures { IsTrue result ↔ NoteFits noted.now.update noted.now.note }
 {
     match &noted.update {
         Update::Put(_) => match &noted.note {
-            NoteOf::Plain => true,
-            NoteOf::Cut { cut, .. } => (cut.attribute as usize) < K,
-            NoteOf::Merge { .. } => false,
+            LayoutChange::Plain => true,
+            LayoutChange::Cut { cut, .. } => (cut.attribute as usize) < K,
+            LayoutChange::Merge { .. } => false,
         },
         Update::Remove(_) => match &noted.note {
-            NoteOf::Plain => true,
-            NoteOf::Cut { .. } => false,
-            NoteOf::Merge { .. } => true,
+            LayoutChange::Plain => true,
+            LayoutChange::Cut { .. } => false,
+            LayoutChange::Merge { .. } => true,
         },
     }
 }
 
-fn all_fit<const K: usize>(updates: &[Noted<K>]) -> bool
+fn all_fit<const K: usize>(updates: &[LoggedUpdate<K>]) -> bool
     ensures { IsTrue result ↔ AllNotesFit updates.now }
 {
     for noted in updates {

@@ -10,32 +10,32 @@ ghost use Rattle.journal_slots.specs.Publishing.{IsClosed, IsWhole, IsPublished,
 
 use crate::{Batch, open_gate, write_batch};
 use disk_trait::{Disk, DiskFailed};
-use grid_types::Layout;
+use grid_types::Geometry;
 
 /// Writes a batch on its slot page, and once it is on the disk opens its gate. Where the gate was closed before, the batch
 /// counts as a whole or not at all at each moment, also where the call fails.
 pub fn publish_batch<const K: usize, D: Disk>(
     disk: &mut D,
-    layout: &Layout,
+    geometry: &Geometry,
     half: u8,
     slot: u32,
     batch: &Batch<K>,
 ) -> Result<(), DiskFailed>
     requires two { half < 2 }
-    requires inside { slot < layout.now.shape.slots }
-    requires size { file_pages layout.now.shape * 4096 ≤ D.extent disk.old }
+    requires inside { slot < geometry.now.shape.slots }
+    requires size { file_pages geometry.now.shape * 4096 ≤ D.extent disk.old }
     requires few { K ≤ 4 }
     requires batch { IsBatch (batch_of batch.now) }
-    ensures whole { IsTrue (D.honest disk.old) → Always (D.may_leave disk.old) (IsClosed layout.now.shape half slot)
-        → LeavesOnly D.moment D.left_since disk.old disk.new (IsWhole layout.now.shape half slot (batch_of batch.now)) }
-    ensures published { IsTrue (D.honest disk.old) → OnOk result (IsPublished layout.now.shape half slot (batch_of batch.now) (D.seen disk.new)) }
+    ensures whole { IsTrue (D.honest disk.old) → Always (D.may_leave disk.old) (IsClosed geometry.now.shape half slot)
+        → LeavesOnly D.moment D.left_since disk.old disk.new (IsWhole geometry.now.shape half slot (batch_of batch.now)) }
+    ensures published { IsTrue (D.honest disk.old) → OnOk result (IsPublished geometry.now.shape half slot (batch_of batch.now) (D.seen disk.new)) }
     ensures durable { OnOk result (IsSynced D.Disk disk.new) }
-    ensures changes { Changes D.Disk (AgreesOutside (slot_ranges layout.now.shape half slot)) disk.old disk.new }
+    ensures changes { Changes D.Disk (AgreesOutside (slot_ranges geometry.now.shape half slot)) disk.old disk.new }
     ensures cause { HasCause (D.write_count disk.old) (D.write_count disk.new) result }
 {
-    match write_batch(disk, layout, half, slot, batch) {
+    match write_batch(disk, geometry, half, slot, batch) {
         Ok(()) => {}
         Err(DiskFailed) => return Err(DiskFailed),
     }
-    open_gate(disk, layout, half, slot)
+    open_gate(disk, geometry, half, slot)
 }

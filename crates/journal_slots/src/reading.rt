@@ -1,9 +1,9 @@
 //! A batch from the bytes of a page.
 ghost use Rattle.std.specs.Prelude.{◌≡◌, ◌≤◌, ◌+◌, List, [], length, slice_index, IsTrue, IsFalse, IfSome, IfNone};
-ghost use Rattle.grid_types.specs.declared.note.NoteOf.{NoteOf};
-ghost use Rattle.grid_types.specs.declared.note.Noted.{Noted};
+ghost use Rattle.grid_types.specs.declared.layout_change.LayoutChange.{LayoutChange};
+ghost use Rattle.grid_types.specs.declared.layout_change.LoggedUpdate.{LoggedUpdate};
 ghost use Rattle.grid_types.specs.declared.update.Update.{Update};
-ghost use Rattle.grid_model.specs.Spellings.{slot_page};
+ghost use Rattle.grid_model.specs.Spellings.{slot_spelling};
 ghost use Rattle.grid_model.specs.Spellings as model;
 ghost use Rattle.grid_model.specs.Images.{SpellsBatch};
 ghost use Rattle.journal_slots.specs.Batches.{batch_of};
@@ -12,13 +12,13 @@ ghost use Rattle.journal_slots.specs.Reading.{NoteAt, ChangeAt, NotedAt, Updates
 use crate::lawful::is_lawful;
 use crate::{Batch, encode};
 use arrayvec::ArrayVec;
-use grid_types::{Cut, Data, Key, NoteOf, Noted, Record, Update};
+use grid_types::{Cut, Data, Key, LayoutChange, LoggedUpdate, Record, Update};
 use page_fields::{get_corner, get_u16, get_u32, get_u64};
 
-fn read_note(page: &[u8; 4096], at: usize) -> Option<NoteOf>
+fn read_note(page: &[u8; 4096], at: usize) -> Option<LayoutChange>
     requires room { at + 96 ≤ 4096 }
     ensures found { IfSome result (λ n. NoteAt page.now at n) }
-    ensures none { IfNone result ((n : NoteOf) → NoteAt page.now at n → ⊥) }
+    ensures none { IfNone result ((n : LayoutChange) → NoteAt page.now at n → ⊥) }
 {
     let kind = page[at + 1];
     if kind == 1 || kind == 2 {
@@ -28,11 +28,11 @@ fn read_note(page: &[u8; 4096], at: usize) -> Option<NoteOf>
             fresh: kind == 2,
         };
         let right = get_u32(page, at + 4);
-        return Some(NoteOf::Cut { cut, right });
+        return Some(LayoutChange::Cut { cut, right });
     }
     match kind {
-        0 => Some(NoteOf::Plain),
-        3 => Some(NoteOf::Merge {
+        0 => Some(LayoutChange::Plain),
+        3 => Some(LayoutChange::Merge {
             with: get_u32(page, at + 4),
         }),
         _ => None,
@@ -51,7 +51,7 @@ fn read_put<const K: usize>(page: &[u8; 4096], at: usize) -> Option<Update<K>>
         return None;
     };
     let key = Key {
-        at: get_corner(page, at + 16),
+        numbers: get_corner(page, at + 16),
     };
     Some(Update::Put(Record { key, value }))
 }
@@ -65,17 +65,17 @@ fn read_change<const K: usize>(page: &[u8; 4096], at: usize) -> Option<Update<K>
     match page[at] {
         1 => read_put(page, at),
         2 => Some(Update::Remove(Key {
-            at: get_corner(page, at + 16),
+            numbers: get_corner(page, at + 16),
         })),
         _ => None,
     }
 }
 
-fn read_update<const K: usize>(page: &[u8; 4096], at: usize) -> Option<Noted<K>>
+fn read_update<const K: usize>(page: &[u8; 4096], at: usize) -> Option<LoggedUpdate<K>>
     requires room { at + 303 ≤ 4096 }
     requires few { K ≤ 4 }
     ensures found { IfSome result (λ u. NotedAt K page.now at u) }
-    ensures none { IfNone result ((u : Noted K) → NotedAt K page.now at u → ⊥) }
+    ensures none { IfNone result ((u : LoggedUpdate K) → NotedAt K page.now at u → ⊥) }
 {
     let Some(update) = read_change(page, at) else {
         return None;
@@ -83,21 +83,21 @@ fn read_update<const K: usize>(page: &[u8; 4096], at: usize) -> Option<Noted<K>>
     let Some(note) = read_note(page, at) else {
         return None;
     };
-    Some(Noted { update, note })
+    Some(LoggedUpdate { update, note })
 }
 
 /// Reads the updates of a page into `updates`, up to one whose bytes are those of no update.
 fn read_updates<const K: usize>(
     page: &[u8; 4096],
     count: usize,
-    updates: &mut ArrayVec<Noted<K>, 16>,
+    updates: &mut ArrayVec<LoggedUpdate<K>, 16>,
 ) -> bool
     requires many { count ≤ 16 }
     requires few { K ≤ 4 }
     requires empty { updates.old.items ≡ [] }
     ensures count { IsTrue result → length updates.new.items ≡ count }
     ensures found { IsTrue result → UpdatesAt K page.now updates.new.items }
-    ensures none { IsFalse result → (us : List (Noted K)) → length us ≡ count → UpdatesAt K page.now us → ⊥ }
+    ensures none { IsFalse result → (us : List (LoggedUpdate K)) → length us ≡ count → UpdatesAt K page.now us → ⊥ }
 {
     for i in 0..count {
         let Some(noted) = read_update(page, 96 + 96 * i) else {
@@ -112,8 +112,8 @@ fn read_updates<const K: usize>(
 fn is_spelled<const K: usize>(page: &[u8; 4096], batch: &Batch<K>) -> bool
     requires few { K ≤ 4 }
     ensures lawful { IsTrue result → IsLawful (batch_of batch.now) }
-    ensures bytes { IsTrue result → page.now ≡ slot_page (batch_of batch.now) }
-    ensures all { IsLawful (batch_of batch.now) → page.now ≡ slot_page (batch_of batch.now) → IsTrue result }
+    ensures bytes { IsTrue result → page.now ≡ slot_spelling (batch_of batch.now) }
+    ensures all { IsLawful (batch_of batch.now) → page.now ≡ slot_spelling (batch_of batch.now) → IsTrue result }
 {
     if !is_lawful(batch) {
         return false;
@@ -127,8 +127,8 @@ fn is_spelled<const K: usize>(page: &[u8; 4096], batch: &Batch<K>) -> bool
 pub fn decode<const K: usize>(page: &[u8; 4096]) -> Option<Batch<K>>
     requires few { K ≤ 4 }
     ensures found { IfSome result (λ b. SpellsBatch page.now (batch_of b)) }
-    ensures only { IfSome result (λ b. (c : model.Batch K) → SpellsBatch page.now c → batch_of b ≡ c) }
-    ensures none { IfNone result ((c : model.Batch K) → SpellsBatch page.now c → ⊥) }
+    ensures only { IfSome result (λ b. (c : model.LoggedBatch K) → SpellsBatch page.now c → batch_of b ≡ c) }
+    ensures none { IfNone result ((c : model.LoggedBatch K) → SpellsBatch page.now c → ⊥) }
 {
     let count = get_u16(page, 4);
     if count > 16 {

@@ -12,7 +12,7 @@ ghost use Rattle.journal_slots.specs.Scans.{AreBatchesOn, IsScan, SpellsSome, Is
 use crate::gates::{is_gate_page, is_open};
 use crate::{Batches, decode};
 use disk_trait::{Disk, Steps, read_page};
-use grid_types::{Layout, Refusal};
+use grid_types::{Geometry, Refusal};
 use std::alloc::{AllocError, Global};
 use std::sync::ledger::Ledger;
 
@@ -54,7 +54,7 @@ fn scan_slot<const K: usize, D: Disk, L: Ledger>(
 /// The batches of the session on the slots of a half whose gates are open, in order.
 fn scan_slots<const K: usize, D: Disk, L: Ledger>(
     disk: &mut D,
-    layout: &Layout,
+    geometry: &Geometry,
     half: u8,
     gates: &[u8],
     session: u64,
@@ -62,25 +62,25 @@ fn scan_slots<const K: usize, D: Disk, L: Ledger>(
     steps: &mut Steps<L>,
 ) -> Result<(), Refusal>
     requires two { half < 2 }
-    requires size { file_pages layout.now.shape * 4096 ≤ D.extent disk.old }
+    requires size { file_pages geometry.now.shape * 4096 ≤ D.extent disk.old }
     requires few { K ≤ 4 }
-    requires gates { length gates.now ≡ layout.now.shape.slots }
+    requires gates { length gates.now ≡ geometry.now.shape.slots }
     requires empty { found.old ≡ [] }
-    ensures found { IsTrue (D.honest disk.old) → OnOk result (AreBatchesOn layout.now.shape (D.seen disk.old) (open_slots_of gates.now half) session found.new) }
-    ensures damaged { IsTrue (D.honest disk.old) → (p : ℕ) → IsErrOf result (Damaged p) → IsFirstBadSlot K layout.now.shape (D.seen disk.old) half gates.now p }
-    ensures no_memory { IsTrue (D.honest disk.old) → IsErrOf result NoMemory → IsToKeep K layout.now.shape (D.seen disk.old) half gates.now session }
+    ensures found { IsTrue (D.honest disk.old) → OnOk result (AreBatchesOn geometry.now.shape (D.seen disk.old) (open_slots_of gates.now half) session found.new) }
+    ensures damaged { IsTrue (D.honest disk.old) → (p : ℕ) → IsErrOf result (Damaged p) → IsFirstBadSlot K geometry.now.shape (D.seen disk.old) half gates.now p }
+    ensures no_memory { IsTrue (D.honest disk.old) → IsErrOf result NoMemory → IsToKeep K geometry.now.shape (D.seen disk.old) half gates.now session }
     ensures read_fault { IsErrOf result ReadFault → Rose (D.read_count disk.old) (D.read_count disk.new) }
     ensures no_other { IfErr result IsRefusalOfScan }
     ensures ticks { steps.old ≤ steps.new }
     ensures all { OnOk result (steps.new ≡ steps.old + length (open_slots_of gates.now half)) }
-    ensures most { steps.new ≤ steps.old + layout.now.shape.slots }
+    ensures most { steps.new ≤ steps.old + geometry.now.shape.slots }
     ensures same { OnlyReads D.Disk disk.old disk.new }
 {
-    for slot in 0..layout.shape.slots {
+    for slot in 0..geometry.shape.slots {
         if !is_open(gates[slot as usize]) {
             continue;
         }
-        let page = layout.slot_page(half, slot);
+        let page = geometry.slot_page(half, slot);
         match scan_slot(disk, page, session, found, steps) {
             Ok(()) => {}
             Err(why) => return Err(why),
@@ -90,11 +90,11 @@ fn scan_slots<const K: usize, D: Disk, L: Ledger>(
 }
 
 /// How many slots each half has.
-fn slots_of(layout: &Layout) -> u32
-    ensures value { result ≡ layout.now.shape.slots }
+fn slots_of(geometry: &Geometry) -> u32
+    ensures value { result ≡ geometry.now.shape.slots }
     ensures few { result ≤ 4000 }
 {
-    layout.shape.slots
+    geometry.shape.slots
 }
 
 /// The batches of a session in a half of the journal: those on the slots whose gates are open, in order. An open gate is 1.
@@ -102,38 +102,38 @@ fn slots_of(layout: &Layout) -> u32
 pub fn scan_half<const K: usize, D: Disk, L: Ledger>(
     alloc: Global,
     disk: &mut D,
-    layout: &Layout,
+    geometry: &Geometry,
     half: u8,
     session: u64,
     steps: &mut Steps<L>,
 ) -> Result<Batches<K>, Refusal>
     requires two { half < 2 }
-    requires size { file_pages layout.now.shape * 4096 ≤ D.extent disk.old }
+    requires size { file_pages geometry.now.shape * 4096 ≤ D.extent disk.old }
     requires few { K ≤ 4 }
-    ensures found { IsTrue (D.honest disk.old) → IfOk result (IsScan layout.now.shape (D.seen disk.old) half session) }
-    ensures only { IsTrue (D.honest disk.old) → IfOk result (λ bs. (cs : List (model.Batch K)) → IsScan layout.now.shape (D.seen disk.old) half session cs → bs ≡ cs) }
-    ensures damaged { IsTrue (D.honest disk.old) → (p : ℕ) → IsErrOf result (Damaged p) → IsFirstBad K layout.now.shape (D.seen disk.old) half p }
-    ensures no_memory { IsTrue (D.honest disk.old) → IsErrOf result NoMemory → WantsMemory K layout.now.shape (D.seen disk.old) half session }
+    ensures found { IsTrue (D.honest disk.old) → IfOk result (IsScan geometry.now.shape (D.seen disk.old) half session) }
+    ensures only { IsTrue (D.honest disk.old) → IfOk result (λ bs. (cs : List (model.LoggedBatch K)) → IsScan geometry.now.shape (D.seen disk.old) half session cs → bs ≡ cs) }
+    ensures damaged { IsTrue (D.honest disk.old) → (p : ℕ) → IsErrOf result (Damaged p) → IsFirstBad K geometry.now.shape (D.seen disk.old) half p }
+    ensures no_memory { IsTrue (D.honest disk.old) → IsErrOf result NoMemory → WantsMemory K geometry.now.shape (D.seen disk.old) half session }
     ensures read_fault { IsErrOf result ReadFault → Rose (D.read_count disk.old) (D.read_count disk.new) }
     ensures no_other { IfErr result IsRefusalOfScan }
     ensures least { steps.old + 1 ≤ steps.new }
-    ensures most { steps.new ≤ steps.old + 1 + layout.now.shape.slots }
-    ensures ticks { IsTrue (D.honest disk.old) → OnOk result ((gates : List ℕ) → HasGatesOf layout.now.shape (D.seen disk.old) half gates → steps.new ≡ steps.old + 1 + length (open_slots_of gates half)) }
+    ensures most { steps.new ≤ steps.old + 1 + geometry.now.shape.slots }
+    ensures ticks { IsTrue (D.honest disk.old) → OnOk result ((gates : List ℕ) → HasGatesOf geometry.now.shape (D.seen disk.old) half gates → steps.new ≡ steps.old + 1 + length (open_slots_of gates half)) }
     ensures same { OnlyReads D.Disk disk.old disk.new }
 {
     let mut bytes = [0; 4096];
-    let gate_page = layout.gate_page(half);
+    let gate_page = geometry.gate_page(half);
     match read_page(disk, gate_page as u64, &mut bytes, steps) {
         Ok(()) => {}
         Err(why) => return Err(why),
     }
-    let slots = slots_of(layout);
+    let slots = slots_of(geometry);
     if !is_gate_page(&bytes, half, slots) {
         return Err(Refusal::Damaged { page: gate_page });
     }
     let mut found = Batches::new(alloc);
     let gates = &bytes[96..96 + slots as usize];
-    match scan_slots(disk, layout, half, gates, session, &mut found, steps) {
+    match scan_slots(disk, geometry, half, gates, session, &mut found, steps) {
         Ok(()) => Ok(found),
         Err(why) => Err(why),
     }

@@ -11,45 +11,45 @@ ghost use Rattle.journal_slots.specs.Publishing.{HasBatch};
 
 use crate::{Batch, encode};
 use disk_trait::{Disk, DiskFailed, write_through};
-use grid_types::Layout;
+use grid_types::Geometry;
 
 /// Closed gates, for each slot that a half may have.
 const CLOSED: [u8; 4000] = [0; 4000];
 
 /// The byte of a slot's gate, counted from the start of the file.
-fn gate_at(layout: &Layout, half: u8, slot: u32) -> u64
+fn gate_at(geometry: &Geometry, half: u8, slot: u32) -> u64
     requires two { half < 2 }
-    requires inside { slot < layout.now.shape.slots }
-    ensures value { result ≡ slot_gate_at layout.now.shape half slot }
-    ensures inside { result / 4096 < file_pages layout.now.shape }
+    requires inside { slot < geometry.now.shape.slots }
+    ensures value { result ≡ slot_gate_at geometry.now.shape half slot }
+    ensures inside { result / 4096 < file_pages geometry.now.shape }
     ensures in_page { result % 4096 ≡ 96 + slot }
-    ensures few { layout.now.shape.slots ≤ 4000 }
+    ensures few { geometry.now.shape.slots ≤ 4000 }
 {
-    layout.gate_page(half) as u64 * 4096 + 96 + slot as u64
+    geometry.gate_page(half) as u64 * 4096 + 96 + slot as u64
 }
 
 /// Writes a batch on its slot page and syncs. At each moment of it a crash leaves what it might have left before, but for
 /// the bytes of that page.
 pub fn write_batch<const K: usize, D: Disk>(
     disk: &mut D,
-    layout: &Layout,
+    geometry: &Geometry,
     half: u8,
     slot: u32,
     batch: &Batch<K>,
 ) -> Result<(), DiskFailed>
     requires two { half < 2 }
-    requires inside { slot < layout.now.shape.slots }
-    requires size { file_pages layout.now.shape * 4096 ≤ D.extent disk.old }
+    requires inside { slot < geometry.now.shape.slots }
+    requires size { file_pages geometry.now.shape * 4096 ≤ D.extent disk.old }
     requires few { K ≤ 4 }
     requires batch { IsBatch (batch_of batch.now) }
-    ensures spelled { IsTrue (D.honest disk.old) → OnOk result (HasBatch layout.now.shape half slot (batch_of batch.now) (D.seen disk.new)) }
+    ensures spelled { IsTrue (D.honest disk.old) → OnOk result (HasBatch geometry.now.shape half slot (batch_of batch.now) (D.seen disk.new)) }
     ensures durable { OnOk result (IsSynced D.Disk disk.new) }
-    ensures changes { Changes D.Disk (Agrees (slot_page layout.now.shape half slot * 4096) 4096) disk.old disk.new }
+    ensures changes { Changes D.Disk (Agrees (slot_page geometry.now.shape half slot * 4096) 4096) disk.old disk.new }
     ensures cause { HasCause (D.write_count disk.old) (D.write_count disk.new) result }
 {
     let mut page = [0; 4096];
     encode(batch, &mut page);
-    let at = layout.slot_page(half, slot) as u64 * 4096;
+    let at = geometry.slot_page(half, slot) as u64 * 4096;
     write_through(disk, at, &page)
 }
 
@@ -57,41 +57,41 @@ pub fn write_batch<const K: usize, D: Disk>(
 /// one byte.
 pub fn open_gate<D: Disk>(
     disk: &mut D,
-    layout: &Layout,
+    geometry: &Geometry,
     half: u8,
     slot: u32,
 ) -> Result<(), DiskFailed>
     requires two { half < 2 }
-    requires inside { slot < layout.now.shape.slots }
-    requires size { file_pages layout.now.shape * 4096 ≤ D.extent disk.old }
-    ensures opened { IsTrue (D.honest disk.old) → OnOk result (Holds (D.seen disk.old) (slot_gate_at layout.now.shape half slot) (1 ∷ []) (D.seen disk.new)) }
+    requires inside { slot < geometry.now.shape.slots }
+    requires size { file_pages geometry.now.shape * 4096 ≤ D.extent disk.old }
+    ensures opened { IsTrue (D.honest disk.old) → OnOk result (Holds (D.seen disk.old) (slot_gate_at geometry.now.shape half slot) (1 ∷ []) (D.seen disk.new)) }
     ensures durable { OnOk result (IsSynced D.Disk disk.new) }
-    ensures changes { Changes D.Disk (Agrees (slot_gate_at layout.now.shape half slot) 1) disk.old disk.new }
+    ensures changes { Changes D.Disk (Agrees (slot_gate_at geometry.now.shape half slot) 1) disk.old disk.new }
     ensures cause { HasCause (D.write_count disk.old) (D.write_count disk.new) result }
 {
-    let at = gate_at(layout, half, slot);
+    let at = gate_at(geometry, half, slot);
     write_through(disk, at, &[1])
 }
 
 /// Closes the gates of the first `used` slots of a half, in one write, and syncs. For none it does nothing.
 pub fn clear_half<D: Disk>(
     disk: &mut D,
-    layout: &Layout,
+    geometry: &Geometry,
     half: u8,
     used: u32,
 ) -> Result<(), DiskFailed>
     requires two { half < 2 }
-    requires inside { used ≤ layout.now.shape.slots }
-    requires size { file_pages layout.now.shape * 4096 ≤ D.extent disk.old }
-    ensures cleared { IsTrue (D.honest disk.old) → OnOk result (Holds (D.seen disk.old) (slot_gate_at layout.now.shape half 0) (replicate used 0) (D.seen disk.new)) }
+    requires inside { used ≤ geometry.now.shape.slots }
+    requires size { file_pages geometry.now.shape * 4096 ≤ D.extent disk.old }
+    ensures cleared { IsTrue (D.honest disk.old) → OnOk result (Holds (D.seen disk.old) (slot_gate_at geometry.now.shape half 0) (replicate used 0) (D.seen disk.new)) }
     ensures durable { 1 ≤ used → OnOk result (IsSynced D.Disk disk.new) }
-    ensures changes { Changes D.Disk (Agrees (slot_gate_at layout.now.shape half 0) used) disk.old disk.new }
+    ensures changes { Changes D.Disk (Agrees (slot_gate_at geometry.now.shape half 0) used) disk.old disk.new }
     ensures nothing { used ≡ 0 → disk.new ≡ disk.old }
     ensures cause { HasCause (D.write_count disk.old) (D.write_count disk.new) result }
 {
     if used == 0 {
         return Ok(());
     }
-    let at = gate_at(layout, half, 0);
+    let at = gate_at(geometry, half, 0);
     write_through(disk, at, &CLOSED[..used as usize])
 }

@@ -1,19 +1,19 @@
 //! The page of a batch.
 ghost use Rattle.std.specs.Prelude.{◌≡◌, ◌≤◌, ◌+◌, ◌++◌, take};
-ghost use Rattle.grid_model.specs.Spellings.{update_bytes, slot_head, slot_page};
+ghost use Rattle.grid_model.specs.Spellings.{update_bytes, slot_head, slot_spelling};
 ghost use Rattle.grid_model.specs.Lawful.{IsBatch};
 ghost use Rattle.grid_model.specs.Images.{SpellsBatch};
 ghost use Rattle.journal_slots.specs.Batches.{batch_of};
 
 use crate::Batch;
 use crate::fields::{attribute, boundary, bucket, bytes, code, key, kind};
-use grid_types::Noted;
+use grid_types::LoggedUpdate;
 use page_fields::{put_bytes, put_corner, put_zeros, set_u16, set_u32, set_u64};
 
 /// How many bytes an update takes, and the head of a page too.
 const UPDATE: usize = 96;
 
-fn put_update<const K: usize>(page: &mut [u8; 4096], at: usize, noted: &Noted<K>)
+fn put_update<const K: usize>(page: &mut [u8; 4096], at: usize, noted: &LoggedUpdate<K>)
     requires room { at + UPDATE ≤ 4096 }
     requires few { K ≤ 4 }
     ensures front { take (at + UPDATE) page.new ≡ take at page.old ++ update_bytes noted.now }
@@ -29,7 +29,7 @@ fn put_update<const K: usize>(page: &mut [u8; 4096], at: usize, noted: &Noted<K>
     put_bytes(page, at, &kinds);
     set_u32(page, at + 4, bucket(note));
     set_u64(page, at + 8, boundary(note));
-    put_corner(page, at + 16, &key(&noted.update).at);
+    put_corner(page, at + 16, &key(&noted.update).numbers);
     put_bytes(page, at + 48, data);
     put_zeros(page, at + 48 + data.len(), at + UPDATE);
 }
@@ -48,7 +48,7 @@ fn put_head<const K: usize>(page: &mut [u8; 4096], batch: &Batch<K>)
 /// Makes `page` the page of the batch, whatever it was before.
 pub fn encode<const K: usize>(batch: &Batch<K>, page: &mut [u8; 4096])
     requires few { K ≤ 4 }
-    ensures written { page.new ≡ slot_page (batch_of batch.now) }
+    ensures written { page.new ≡ slot_spelling (batch_of batch.now) }
     ensures spelled { IsBatch (batch_of batch.now) → SpellsBatch page.new (batch_of batch.now) }
 {
     put_head(page, batch);

@@ -10,7 +10,7 @@ use Rattle.grid_model.specs.Lists.{is_among}
 use Rattle.grid_model.specs.Scales.{ascends_from, is_scale, interval, refined}
 use Rattle.grid_model.proofs.ScaleLaws.{goes-on, each-from, counted, uncounted, refined-ascends, refined-longer}
 use Rattle.linear_scales.specs.Limited.{IsLimited}
-use Rattle.linear_scales.specs.Searches.{StandsAt, FitsAt}
+use Rattle.linear_scales.specs.Searches.{IsBoundaryAt, FitsAt}
 
 -- a boundary is below each later one
 pub ascends : (l : ℕ) (bs : List ℕ) (i j : ℕ) → ascends_from l bs ≡ true → i < j → j < length bs → slice_index bs i < slice_index bs j
@@ -66,7 +66,7 @@ above-left (b ∷ bs) v (suc i) p below above =
     ∙ above-left bs v i (omega (arith, p)) (λ k r. below (suc k) (omega (arith, r))) (λ k r s. above (suc k) (omega (arith, r)) (omega (arith, s)))
 
 -- what is found at an index
-stands : (bs : List ℕ) (v i : ℕ) → is_scale bs ≡ true → i < length bs → slice_index bs i ≡ v → StandsAt bs v i
+stands : (bs : List ℕ) (v i : ℕ) → is_scale bs ≡ true → i < length bs → slice_index bs i ≡ v → IsBoundaryAt bs v i
 stands bs v i e p q = record {
   inside = p;
   among = among-at bs v i p q;
@@ -87,10 +87,10 @@ fits bs v i p below above = record {
     by k q e (inr r) = omega (arith, e, above k r q)
 
 -- what a binary search answers
-pub search-answers : (bs : List ℕ) (v : ℕ) (r : Result ℕ ℕ) → is_scale bs ≡ true → IsBinarySearchResult (λ y. nat_cmp y v) bs r → MatchResult r (StandsAt bs v) (FitsAt bs v)
+pub search-answers : (bs : List ℕ) (v : ℕ) (r : Result ℕ ℕ) → is_scale bs ≡ true → IsBinarySearchResult (λ y. nat_cmp y v) bs r → MatchResult r (IsBoundaryAt bs v) (FitsAt bs v)
 search-answers bs v r e h = by r (searched bs v r h (λ i j p q. never-falls 1 bs i j e p q))
   where
-    by : (r : Result ℕ ℕ) → MatchResult r (λ i. (i < length bs) × (get_or bs i 0 ≡ v)) (λ i. (i ≤ length bs) × ((k : ℕ) → k < i → get_or bs k 0 < v) × ((k : ℕ) → i ≤ k → k < length bs → v < get_or bs k 0)) → MatchResult r (StandsAt bs v) (FitsAt bs v)
+    by : (r : Result ℕ ℕ) → MatchResult r (λ i. (i < length bs) × (get_or bs i 0 ≡ v)) (λ i. (i ≤ length bs) × ((k : ℕ) → k < i → get_or bs k 0 < v) × ((k : ℕ) → i ≤ k → k < length bs → v < get_or bs k 0)) → MatchResult r (IsBoundaryAt bs v) (FitsAt bs v)
     by (Ok i) g = stands bs v i e g.0 g.1
     by (Err i) g = fits bs v i g.0 g.1 g.2
 

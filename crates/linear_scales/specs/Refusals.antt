@@ -6,7 +6,7 @@ use Rattle.linear_scales.specs.declared.refused.ScaleRefused.TheVariants.{Presen
 use Rattle.linear_scales.specs.Limited.{LimitedScale}
 
 -- a scale takes a number that is no boundary while its limit is not reached
-pub record MayTake (s : LimitedScale) (v : ℕ) : Type 0 where
+pub record TakesBoundary (s : LimitedScale) (v : ℕ) : Type 0 where
   pub fresh : is_among s.boundaries v ≡ false
   pub room : length s.boundaries < s.limit
 

@@ -5,7 +5,7 @@ use Rattle.grid_model.specs.Lists.{is_among}
 use Rattle.grid_model.specs.Scales.{interval, refined}
 
 -- a number is the boundary at an index, the last that is at most the number
-pub record StandsAt (scale : List ℕ) (v i : ℕ) : Type 0 where
+pub record IsBoundaryAt (scale : List ℕ) (v i : ℕ) : Type 0 where
   pub inside : i < length scale
   pub among : IsTrue (is_among scale v)
   pub counted : interval scale v ≡ i + 1

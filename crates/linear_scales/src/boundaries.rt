@@ -2,12 +2,12 @@
 ghost use Rattle.std.specs.Prelude.{◌≡◌, ◌≤◌, ◌+◌, ℕ, length, IsTrue, MatchResult, vec_capacity, vec_len};
 ghost use Rattle.std.specs.List.{insert};
 ghost use Rattle.grid_model.specs.Scales.{is_scale, interval, low, high};
-ghost use Rattle.linear_scales.specs.Searches.{StandsAt, FitsAt};
+ghost use Rattle.linear_scales.specs.Searches.{IsBoundaryAt, FitsAt};
 
 /// The index of a boundary, or the index at which the number would stand.
 pub fn search(boundaries: &[u64], v: u64) -> Result<usize, usize>
     requires { IsTrue (is_scale boundaries.now) }
-    ensures { MatchResult result (StandsAt boundaries.now v) (FitsAt boundaries.now v) }
+    ensures { MatchResult result (IsBoundaryAt boundaries.now v) (FitsAt boundaries.now v) }
 {
     boundaries.binary_search(&v)
 }

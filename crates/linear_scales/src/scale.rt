@@ -3,7 +3,7 @@ ghost use Rattle.std.specs.Prelude.{◌≡◌, ◌<◌, ◌≤◌, ◌+◌, ◌�
 ghost use Rattle.grid_types.specs.Queries.{is_straight};
 ghost use Rattle.grid_model.specs.Scales.{top, interval, intervals, low, high, refined};
 ghost use Rattle.linear_scales.specs.Limited.{IsLimited};
-ghost use Rattle.linear_scales.specs.Refusals.{MayTake, IsCause};
+ghost use Rattle.linear_scales.specs.Refusals.{TakesBoundary, IsCause};
 ghost use Rattle.linear_scales.specs.Sides.{begin_of, end_of, Meets};
 
 use crate::{ScaleRefused, boundaries};
@@ -108,7 +108,7 @@ impl Scale {
     /// Adds a boundary. It takes no memory.
     pub fn refine(&mut self, v: u64) -> Result<(), ScaleRefused>
         requires { 1 ≤ v }
-        ensures taken { OnOk result (MayTake self.old v) }
+        ensures taken { OnOk result (TakesBoundary self.old v) }
         ensures refused { IfErr result (IsCause self.old v) }
         ensures boundaries { OnOk result (self.new.boundaries ≡ refined self.old.boundaries v) }
         ensures limit { self.new.limit ≡ self.old.limit }

@@ -7,7 +7,7 @@ ghost use Rattle.grid_model.specs.Scales.{scale_of, interval, refined};
 ghost use Rattle.grid_model.specs.Cells.{dims, cell_of};
 ghost use Rattle.grid_model.specs.ScaleLaws.{IsCell};
 ghost use Rattle.linear_scales.specs.Limited.{LimitedScale, scales_of, limits_of};
-ghost use Rattle.linear_scales.specs.Refusals.{MayTake, IsCause};
+ghost use Rattle.linear_scales.specs.Refusals.{TakesBoundary, IsCause};
 ghost use Rattle.linear_scales.specs.Sides.{begin_of, end_of, Meets};
 ghost use Rattle.linear_scales.specs.Queries.{lowest_cell, highest_cell, MeetsQuery};
 
@@ -114,7 +114,7 @@ impl<const K: usize> Scales<K> {
     pub fn refine(&mut self, a: usize, v: u64) -> Result<(), ScaleRefused>
         requires attribute { a < K }
         requires low { 1 ≤ v }
-        ensures taken { (d : LimitedScale) → OnOk result (MayTake (slice_index_or self.old a d) v) }
+        ensures taken { (d : LimitedScale) → OnOk result (TakesBoundary (slice_index_or self.old a d) v) }
         ensures refused { (d : LimitedScale) → IfErr result (IsCause (slice_index_or self.old a d) v) }
         ensures scales { OnOk result (scales_of self.new ≡ slice_set (scales_of self.old) a (refined (scale_of (scales_of self.old) a) v)) }
         ensures limits { limits_of self.new ≡ limits_of self.old }
@@ -141,10 +141,10 @@ impl<const K: usize> Scales<K> {
 
     /// The cell of a key.
     pub fn cell_of(&self, key: &Key<K>) -> [u32; K]
-        ensures value { result ≡ cell_of (scales_of self.now) key.now.at }
+        ensures value { result ≡ cell_of (scales_of self.now) key.now.numbers }
         ensures inside { IsCell (dims (scales_of self.now)) result }
     {
-        intervals_of(&self.of, &key.at)
+        intervals_of(&self.of, &key.numbers)
     }
 
     /// The lowest and the highest cell of the box of cells that meet a query.

@@ -106,9 +106,9 @@ fn keys_and_queries_have_cells(rt: HostRuntime) -> Result<(), Fail> {
     assert_eq!(rt; scales.refine(1, 4), Ok(()));
     assert_eq!(rt; scales.refine(1, 8), Ok(()));
     let mut copy = Scales::<2>::new(rt.alloc(), 3)?;
-    assert_eq!(rt; copy.cell_of(&Key { at: [9, 9] }), [0, 0]);
+    assert_eq!(rt; copy.cell_of(&Key { numbers: [9, 9] }), [0, 0]);
     copy.copy_from(&scales);
-    assert_eq!(rt; copy.cell_of(&Key { at: [5, 7] }), [1, 1]);
+    assert_eq!(rt; copy.cell_of(&Key { numbers: [5, 7] }), [1, 1]);
     let query = Query {
         sides: [Side::Any, Side::Between(4, 8)],
     };

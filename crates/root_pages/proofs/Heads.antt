@@ -3,7 +3,7 @@ use Rattle.std.proofs.Common.{◌≡◌, ◌-◌, ℕ, List, ◌∷◌, ◌++◌
 use Rattle.page_fields.specs.Fields.{bytes_of}
 use Rattle.page_fields.specs.Padded.{padded, numbers, words_of}
 use Rattle.page_fields.proofs.BytesOf.{length-bytes_of, length-padded}
-use Rattle.grid_model.specs.Spellings.{area_head, scale_page, list_page, bucket_table_page}
+use Rattle.grid_model.specs.Spellings.{area_head, scale_spelling, list_spelling, bucket_table_spelling}
 use Rattle.root_pages.specs.Areas.{entries_page}
 
 pub length-area_head : (kind : List ℕ) (index count root : ℕ) → length kind ≡ 4 → length (area_head kind index count root) ≡ 24
@@ -32,14 +32,14 @@ head_written kind index count root a1 a2 a3 a4 a5 a6 four e1 e2 e3 e4 e5 e6 =
     e6 ∙ rw (e5, e4, e3, e2, e1) joined ∙ sym (head_is kind index count root four)
 
 -- the kinds of pages are pages of entries
-pub scale_is : (root index : ℕ) (entries : List ℕ) → scale_page root index entries ≡ entries_page 8 (codes "GFS1") root index entries
-unfolding scale_page entries_page numbers
+pub scale_is : (root index : ℕ) (entries : List ℕ) → scale_spelling root index entries ≡ entries_page 8 (codes "GFS1") root index entries
+unfolding scale_spelling entries_page numbers
 scale_is root index entries = refl
 
-pub list_is : (root index : ℕ) (entries : List ℕ) → list_page root index entries ≡ entries_page 4 (codes "GFL1") root index entries
-unfolding list_page entries_page words_of
+pub list_is : (root index : ℕ) (entries : List ℕ) → list_spelling root index entries ≡ entries_page 4 (codes "GFL1") root index entries
+unfolding list_spelling entries_page words_of
 list_is root index entries = refl
 
-pub table_is : (root index : ℕ) (entries : List ℕ) → bucket_table_page root index entries ≡ entries_page 4 (codes "GFT1") root index entries
-unfolding bucket_table_page entries_page words_of
+pub table_is : (root index : ℕ) (entries : List ℕ) → bucket_table_spelling root index entries ≡ entries_page 4 (codes "GFT1") root index entries
+unfolding bucket_table_spelling entries_page words_of
 table_is root index entries = refl

@@ -1,7 +1,7 @@
 -- The three kinds of pages of a table area, as pages of entries.
 use Rattle.std.proofs.Common.{◌≡◌, ◌<◌, ◌≤◌, ◌+◌, ◌*◌, ◌^◌, ℕ, List, length, slice_index, refl, sym, subst, ◌∙◌, codes, arith}
 use Rattle.page_fields.proofs.Entries.{AreBytes, entries_in, length-entries_in, entries_fit}
-use Rattle.grid_model.specs.Spellings.{scale_page, list_page, bucket_table_page}
+use Rattle.grid_model.specs.Spellings.{scale_spelling, list_spelling, bucket_table_spelling}
 use Rattle.root_pages.specs.Areas.{SpellsEntries, HasEntries, entries_page}
 use Rattle.root_pages.specs.Reading.{IsPageUpTo}
 use Rattle.root_pages.specs.Laws.{IsOneList}
@@ -17,13 +17,13 @@ pub record IsKind (w : ℕ) (kind : List ℕ) (spelling : ℕ → ℕ → List �
   pub few : most ≤ 4000
   pub width : 2 ^ bits ≡ 256 ^ w
 
-pub scales : IsKind 8 (codes "GFS1") scale_page 500 64
+pub scales : IsKind 8 (codes "GFS1") scale_spelling 500 64
 scales = record { four = refl; same = scale_is; room = λ n le. omega arith; few = omega arith; width = refl }
 
-pub lists : IsKind 4 (codes "GFL1") list_page 1000 32
+pub lists : IsKind 4 (codes "GFL1") list_spelling 1000 32
 lists = record { four = refl; same = list_is; room = λ n le. omega arith; few = omega arith; width = refl }
 
-pub tables : IsKind 4 (codes "GFT1") bucket_table_page 1000 32
+pub tables : IsKind 4 (codes "GFT1") bucket_table_spelling 1000 32
 tables = record { four = refl; same = table_is; room = λ n le. omega arith; few = omega arith; width = refl }
 
 module _ (w : ℕ) (kind : List ℕ) (spelling : ℕ → ℕ → List ℕ → List ℕ) (most bits : ℕ) (k : IsKind w kind spelling most bits) where

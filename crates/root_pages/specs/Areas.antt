@@ -2,7 +2,7 @@
 use Rattle.std.specs.Prelude.{◌≡◌, ◌<◌, ◌≤◌, ◌^◌, ℕ, List, length, slice_index}
 use Rattle.std.specs.List.{flat_map}
 use Rattle.page_fields.specs.Fields.{bytes_of}
-use Rattle.grid_model.specs.Spellings.{area_head, page, scale_page, list_page, bucket_table_page}
+use Rattle.grid_model.specs.Spellings.{area_head, page, scale_spelling, list_spelling, bucket_table_spelling}
 
 -- the page of a table area of this kind, with these entries of w bytes each
 unfoldable pub entries_page : ℕ → List ℕ → ℕ → ℕ → List ℕ → List ℕ
@@ -18,15 +18,15 @@ pub record SpellsEntries (spelling : ℕ → ℕ → List ℕ → List ℕ) (mos
 
 -- a page spells these boundaries of a scale, which are at most 500 and have 64 bits
 abbrev pub SpellsScale : ℕ → ℕ → List ℕ → List ℕ → Type 0
-SpellsScale root index page boundaries = SpellsEntries scale_page 500 64 root index page boundaries
+SpellsScale root index page boundaries = SpellsEntries scale_spelling 500 64 root index page boundaries
 
 -- a page spells these data pages of directory parts, which are at most a thousand and have 32 bits
 abbrev pub SpellsList : ℕ → ℕ → List ℕ → List ℕ → Type 0
-SpellsList root index page pages = SpellsEntries list_page 1000 32 root index page pages
+SpellsList root index page pages = SpellsEntries list_spelling 1000 32 root index page pages
 
 -- a page spells these data pages of bucket numbers, which are at most a thousand and have 32 bits
 abbrev pub SpellsTable : ℕ → ℕ → List ℕ → List ℕ → Type 0
-SpellsTable root index page pages = SpellsEntries bucket_table_page 1000 32 root index page pages
+SpellsTable root index page pages = SpellsEntries bucket_table_spelling 1000 32 root index page pages
 
 -- a page has so many entries: there are as many that it spells
 pub record HasEntries (spells : List ℕ → List ℕ → Type 0) (count : ℕ) (page : List ℕ) : Type 0 where

@@ -1,7 +1,7 @@
 //! The bytes of the pages of a table area.
 ghost use Rattle.std.specs.Prelude.{◌≡◌, ◌≤◌, length, take};
 ghost use Rattle.page_fields.specs.Padded.{padded};
-ghost use Rattle.grid_model.specs.Spellings.{area_head, scale_page, list_page, bucket_table_page};
+ghost use Rattle.grid_model.specs.Spellings.{area_head, scale_spelling, list_spelling, bucket_table_spelling};
 ghost use Rattle.root_pages.specs.Areas.{entries_page, SpellsScale, SpellsList, SpellsTable};
 
 use page_fields::{put_bytes, put_numbers, put_words, put_zeros, set_u32, set_u64};
@@ -20,7 +20,7 @@ fn put_head(page: &mut [u8; 4096], kind: &[u8; 4], root: u64, index: u32, count:
 /// Makes `page` a page with these boundaries of a scale, whatever it was before.
 pub fn encode_scale(root: u64, index: u32, boundaries: &[u64], page: &mut [u8; 4096])
     requires { length boundaries.now ≤ 500 }
-    ensures written { page.new ≡ scale_page root index boundaries.now }
+    ensures written { page.new ≡ scale_spelling root index boundaries.now }
     ensures spelled { SpellsScale root index page.new boundaries.now }
 {
     put_head(page, b"GFS1", root, index, boundaries.len() as u32);
@@ -40,7 +40,7 @@ fn encode_pages(page: &mut [u8; 4096], kind: &[u8; 4], root: u64, index: u32, pa
 /// Makes `page` the page with the data page of each directory part, whatever it was before.
 pub fn encode_list(root: u64, index: u32, pages: &[u32], page: &mut [u8; 4096])
     requires { length pages.now ≤ 1000 }
-    ensures written { page.new ≡ list_page root index pages.now }
+    ensures written { page.new ≡ list_spelling root index pages.now }
     ensures spelled { SpellsList root index page.new pages.now }
 {
     encode_pages(page, b"GFL1", root, index, pages);
@@ -49,7 +49,7 @@ pub fn encode_list(root: u64, index: u32, pages: &[u32], page: &mut [u8; 4096])
 /// Makes `page` a page with the data pages of these bucket numbers, whatever it was before.
 pub fn encode_table(root: u64, index: u32, pages: &[u32], page: &mut [u8; 4096])
     requires { length pages.now ≤ 1000 }
-    ensures written { page.new ≡ bucket_table_page root index pages.now }
+    ensures written { page.new ≡ bucket_table_spelling root index pages.now }
     ensures spelled { SpellsTable root index page.new pages.now }
 {
     encode_pages(page, b"GFT1", root, index, pages);

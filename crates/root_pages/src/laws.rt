@@ -1,5 +1,5 @@
 //! The laws of the spellings, as the contract of a function without code.
-ghost use Rattle.grid_model.specs.Spellings.{scale_page, list_page, bucket_table_page};
+ghost use Rattle.grid_model.specs.Spellings.{scale_spelling, list_spelling, bucket_table_spelling};
 ghost use Rattle.root_pages.specs.Laws.{SpellsOneShape, SpellsOneRoot, SpellsOneList};
 
 /// The laws of header pages and table areas: no bytes spell two shapes or two roots, and no page spells two lists of
@@ -7,7 +7,7 @@ ghost use Rattle.root_pages.specs.Laws.{SpellsOneShape, SpellsOneRoot, SpellsOne
 pub fn spelling_law()
     ensures shapes { SpellsOneShape }
     ensures roots { SpellsOneRoot }
-    ensures scales { SpellsOneList scale_page 500 64 }
-    ensures lists { SpellsOneList list_page 1000 32 }
-    ensures tables { SpellsOneList bucket_table_page 1000 32 }
+    ensures scales { SpellsOneList scale_spelling 500 64 }
+    ensures lists { SpellsOneList list_spelling 1000 32 }
+    ensures tables { SpellsOneList bucket_table_spelling 1000 32 }
 {}

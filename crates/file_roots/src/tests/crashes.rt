@@ -12,17 +12,17 @@ use std::test::*;
 /// answered, or the next. Root 1 takes 16 calls, and root 2 takes 17, since it closes an open gate.
 fn is_old_or_new<L: Ledger>(
     alloc: Global,
-    layout: &Layout,
+    geometry: &Geometry,
     calls: u64,
     keep: Keep,
     steps: &mut Steps<L>,
 ) -> Result<bool, AllocError>
-    requires lawful { IsTrue (is_shape layout.now.shape) }
-    requires attributes { layout.now.shape.k ≡ ATTRIBUTES }
-    requires pages { file_pages layout.now.shape ≡ 34 }
+    requires lawful { IsTrue (is_shape geometry.now.shape) }
+    requires attributes { geometry.now.shape.k ≡ ATTRIBUTES }
+    requires pages { file_pages geometry.now.shape ≡ 34 }
 {
     let mut disk = small_file(alloc)?;
-    let root = match newest(alloc, &mut disk, layout, steps) {
+    let root = match newest(alloc, &mut disk, geometry, steps) {
         Ok(root) => root,
         Err(_) => return Ok(false),
     };
@@ -30,12 +30,12 @@ fn is_old_or_new<L: Ledger>(
         return Ok(false);
     }
     let mut disk = Fused::new(disk, calls);
-    let root = next(root, layout);
-    let mut done = u64::from(replace_root(&mut disk, layout, &root, steps).is_ok());
-    let root = next(root, layout);
-    done += u64::from(replace_root(&mut disk, layout, &root, steps).is_ok());
+    let root = next(root, geometry);
+    let mut done = u64::from(replace_root(&mut disk, geometry, &root, steps).is_ok());
+    let root = next(root, geometry);
+    done += u64::from(replace_root(&mut disk, geometry, &root, steps).is_ok());
     let mut image = disk.image(keep)?;
-    let told = verdict(alloc, &mut image, layout, steps);
+    let told = verdict(alloc, &mut image, geometry, steps);
     let due = u64::from(calls >= 16) + u64::from(calls >= 33);
     Ok(done == due && told <= 2 && (told == done || told == done + 1))
 }
@@ -46,13 +46,13 @@ fn leaves_a_root<L: Ledger>(alloc: Global, blank: Blank) -> Result<bool, AllocEr
     requires parts { blank.parts ≡ L.parts }
     requires some { 0 < L.parts }
 {
-    let layout = small();
+    let geometry = small();
     let mut steps = Steps::<L>::new(blank);
     let mut all = true;
     for calls in 0..35 {
-        all &= is_old_or_new(alloc, &layout, calls, Keep::All, &mut steps)?;
-        all &= is_old_or_new(alloc, &layout, calls, Keep::None, &mut steps)?;
-        all &= is_old_or_new(alloc, &layout, calls, Keep::Changed, &mut steps)?;
+        all &= is_old_or_new(alloc, &geometry, calls, Keep::All, &mut steps)?;
+        all &= is_old_or_new(alloc, &geometry, calls, Keep::None, &mut steps)?;
+        all &= is_old_or_new(alloc, &geometry, calls, Keep::Changed, &mut steps)?;
     }
     Ok(all)
 }
@@ -67,14 +67,14 @@ fn a_crash_leaves_the_old_root_or_the_new(rt: HostRuntime) -> Result<(), Fail> {
 fn session_of<L: Ledger>(
     alloc: Global,
     disk: &mut Memory,
-    layout: &Layout,
+    geometry: &Geometry,
     steps: &mut Steps<L>,
 ) -> u64
-    requires lawful { IsTrue (is_shape layout.now.shape) }
-    requires attributes { layout.now.shape.k ≡ ATTRIBUTES }
-    requires size { file_pages layout.now.shape * 4096 ≤ extent_of disk.old }
+    requires lawful { IsTrue (is_shape geometry.now.shape) }
+    requires attributes { geometry.now.shape.k ≡ ATTRIBUTES }
+    requires size { file_pages geometry.now.shape * 4096 ≤ extent_of disk.old }
 {
-    match newest(alloc, disk, layout, steps) {
+    match newest(alloc, disk, geometry, steps) {
         Ok(root) => root.session,
         Err(_) => 9999,
     }
@@ -84,21 +84,21 @@ fn session_of<L: Ledger>(
 /// so many, leaves the old root, that of the first attempt, or this one. Their sessions are 4, 5 and 6.
 fn is_old_or_tried<L: Ledger>(
     alloc: Global,
-    layout: &Layout,
+    geometry: &Geometry,
     failing: u64,
     calls: u64,
     keep: Keep,
     steps: &mut Steps<L>,
 ) -> Result<bool, AllocError>
-    requires lawful { IsTrue (is_shape layout.now.shape) }
-    requires attributes { layout.now.shape.k ≡ ATTRIBUTES }
-    requires pages { file_pages layout.now.shape ≡ 34 }
+    requires lawful { IsTrue (is_shape geometry.now.shape) }
+    requires attributes { geometry.now.shape.k ≡ ATTRIBUTES }
+    requires pages { file_pages geometry.now.shape ≡ 34 }
 {
     let mut disk = small_file(alloc)?;
-    if !advance(alloc, &mut disk, layout, steps) {
+    if !advance(alloc, &mut disk, geometry, steps) {
         return Ok(false);
     }
-    let root = match newest(alloc, &mut disk, layout, steps) {
+    let root = match newest(alloc, &mut disk, geometry, steps) {
         Ok(root) => root,
         Err(_) => return Ok(false),
     };
@@ -106,13 +106,13 @@ fn is_old_or_tried<L: Ledger>(
         return Ok(false);
     }
     disk.fail(failing)?;
-    let root = next(root, layout);
-    let failed = replace_root(&mut disk, layout, &root, steps).is_err();
+    let root = next(root, geometry);
+    let failed = replace_root(&mut disk, geometry, &root, steps).is_err();
     let mut disk = Fused::new(disk, calls);
-    let root = renewed(root, layout);
-    let answered = replace_root(&mut disk, layout, &root, steps).is_ok();
+    let root = renewed(root, geometry);
+    let answered = replace_root(&mut disk, geometry, &root, steps).is_ok();
     let mut image = disk.image(keep)?;
-    let told = session_of(alloc, &mut image, layout, steps);
+    let told = session_of(alloc, &mut image, geometry, steps);
     Ok(failed && told >= 4 && told <= 6 && (told == 6 || !answered))
 }
 
@@ -126,13 +126,13 @@ fn may_be_tried_again<L: Ledger>(alloc: Global, blank: Blank) -> Result<bool, Al
     requires parts { blank.parts ≡ L.parts }
     requires some { 0 < L.parts }
 {
-    let layout = small();
+    let geometry = small();
     let mut steps = Steps::<L>::new(blank);
     let mut all = true;
     for failing in CALLS {
         for calls in CALLS {
-            all &= is_old_or_tried(alloc, &layout, failing, calls, Keep::None, &mut steps)?;
-            all &= is_old_or_tried(alloc, &layout, failing, calls, Keep::Changed, &mut steps)?;
+            all &= is_old_or_tried(alloc, &geometry, failing, calls, Keep::None, &mut steps)?;
+            all &= is_old_or_tried(alloc, &geometry, failing, calls, Keep::Changed, &mut steps)?;
         }
     }
     Ok(all)

@@ -41,13 +41,13 @@ fn put_byte(disk: &mut Memory, at: u64, byte: u8) -> u8
 fn is_judged<L: Ledger>(
     alloc: Global,
     disk: &mut Memory,
-    layout: &Layout,
+    geometry: &Geometry,
     case: Case,
     steps: &mut Steps<L>,
 ) -> bool
-    requires lawful { IsTrue (is_shape layout.now.shape) }
-    requires attributes { layout.now.shape.k ≡ ATTRIBUTES }
-    requires size { file_pages layout.now.shape * 4096 ≤ extent_of disk.old }
+    requires lawful { IsTrue (is_shape geometry.now.shape) }
+    requires attributes { geometry.now.shape.k ≡ ATTRIBUTES }
+    requires size { file_pages geometry.now.shape * 4096 ≤ extent_of disk.old }
     ensures size { extent_of disk.new ≡ extent_of disk.old }
 {
     let at = u64::from(case.page) * 4096 + u64::from(case.offset);
@@ -55,7 +55,7 @@ fn is_judged<L: Ledger>(
         return false;
     }
     let kept = put_byte(disk, at, case.byte);
-    let told = verdict(alloc, disk, layout, steps);
+    let told = verdict(alloc, disk, geometry, steps);
     let _ = put_byte(disk, at, kept);
     told == case.told
 }
@@ -103,17 +103,17 @@ fn is_named_in_a_small_file<L: Ledger>(alloc: Global, blank: Blank) -> Result<bo
     requires parts { blank.parts ≡ L.parts }
     requires some { 0 < L.parts }
 {
-    let layout = small();
+    let geometry = small();
     let mut steps = Steps::<L>::new(blank);
     let mut disk = small_file(alloc)?;
-    let mut all = advance(alloc, &mut disk, &layout, &mut steps);
-    all &= advance(alloc, &mut disk, &layout, &mut steps);
+    let mut all = advance(alloc, &mut disk, &geometry, &mut steps);
+    all &= advance(alloc, &mut disk, &geometry, &mut steps);
     for case in small_cases() {
-        all &= is_judged(alloc, &mut disk, &layout, case, &mut steps);
+        all &= is_judged(alloc, &mut disk, &geometry, case, &mut steps);
     }
     let _ = put_byte(&mut disk, 64, 0);
     let _ = put_byte(&mut disk, 4096 + 64, 0);
-    Ok(all & (verdict(alloc, &mut disk, &layout, &mut steps) == 1000))
+    Ok(all & (verdict(alloc, &mut disk, &geometry, &mut steps) == 1000))
 }
 
 /// Whether each case of a large file has its verdict.
@@ -122,12 +122,12 @@ fn is_named_in_a_large_file<L: Ledger>(alloc: Global, blank: Blank) -> Result<bo
     requires parts { blank.parts ≡ L.parts }
     requires some { 0 < L.parts }
 {
-    let layout = large();
+    let geometry = large();
     let mut steps = Steps::<L>::new(blank);
     let mut disk = large_file(alloc)?;
     let mut all = true;
     for case in large_cases() {
-        all &= is_judged(alloc, &mut disk, &layout, case, &mut steps);
+        all &= is_judged(alloc, &mut disk, &geometry, case, &mut steps);
     }
     Ok(all)
 }

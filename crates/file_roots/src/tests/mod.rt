@@ -6,7 +6,7 @@ ghost use Rattle.file_roots.specs.Roots.{IsRoot};
 use super::*;
 use disk_memory::Memory;
 use disk_trait::{Disk, Steps};
-use grid_types::{Layout, Refusal, Shape};
+use grid_types::{Geometry, Refusal, Shape};
 use root_pages::{RootFields, encode_fields, encode_list, encode_scale, encode_table};
 use std::alloc::{AllocError, Global};
 use std::sync::ledger::Ledger;
@@ -19,12 +19,12 @@ const ATTRIBUTES: usize = 2;
 
 /// A file of 34 pages: two header pages, two table areas of ten, and a half of two pages twice, and eight data pages.
 #[tactic(auto, unfolding(grid_types::specs::Shapes::is_shape, grid_types::specs::Shapes::file_pages))]
-fn small() -> Layout
+fn small() -> Geometry
     ensures lawful { IsTrue (is_shape result.shape) }
     ensures attributes { result.shape.k ≡ ATTRIBUTES }
     ensures pages { file_pages result.shape ≡ 34 }
 {
-    Layout {
+    Geometry {
         shape: Shape {
             k: 2,
             capacity: 2,
@@ -38,12 +38,12 @@ fn small() -> Layout
 
 /// A file of 1,128 pages: its bucket table takes two pages, so that a table area has eleven.
 #[tactic(auto, unfolding(grid_types::specs::Shapes::is_shape, grid_types::specs::Shapes::file_pages))]
-fn large() -> Layout
+fn large() -> Geometry
     ensures lawful { IsTrue (is_shape result.shape) }
     ensures attributes { result.shape.k ≡ ATTRIBUTES }
     ensures pages { file_pages result.shape ≡ 1128 }
 {
-    Layout {
+    Geometry {
         shape: Shape {
             k: 2,
             capacity: 2,
@@ -157,23 +157,23 @@ fn large_file(alloc: Global) -> Result<Memory, AllocError>
 fn newest<L: Ledger>(
     alloc: Global,
     disk: &mut Memory,
-    layout: &Layout,
+    geometry: &Geometry,
     steps: &mut Steps<L>,
 ) -> Result<Root<ATTRIBUTES>, Refusal>
-    requires lawful { IsTrue (is_shape layout.now.shape) }
-    requires attributes { layout.now.shape.k ≡ ATTRIBUTES }
-    requires size { file_pages layout.now.shape * 4096 ≤ extent_of disk.old }
-    ensures root { IfOk result (λ r. IsRoot layout.now.shape r) }
+    requires lawful { IsTrue (is_shape geometry.now.shape) }
+    requires attributes { geometry.now.shape.k ≡ ATTRIBUTES }
+    requires size { file_pages geometry.now.shape * 4096 ≤ extent_of disk.old }
+    ensures root { IfOk result (λ r. IsRoot geometry.now.shape r) }
     ensures size { extent_of disk.new ≡ extent_of disk.old }
 {
-    read_newest(alloc, disk, layout, steps)
+    read_newest(alloc, disk, geometry, steps)
 }
 
 /// The same root of the next session.
-fn renewed(root: Root<ATTRIBUTES>, layout: &Layout) -> Root<ATTRIBUTES>
-    requires root { IsRoot layout.now.shape root }
+fn renewed(root: Root<ATTRIBUTES>, geometry: &Geometry) -> Root<ATTRIBUTES>
+    requires root { IsRoot geometry.now.shape root }
     requires session { root.session < 1000 }
-    ensures root { IsRoot layout.now.shape result }
+    ensures root { IsRoot geometry.now.shape result }
     ensures number { result.number ≡ root.number }
     ensures session { result.session ≡ root.session + 1 }
 {
@@ -183,11 +183,11 @@ fn renewed(root: Root<ATTRIBUTES>, layout: &Layout) -> Root<ATTRIBUTES>
 }
 
 /// The same root with the next number, of the next session.
-fn next(root: Root<ATTRIBUTES>, layout: &Layout) -> Root<ATTRIBUTES>
-    requires root { IsRoot layout.now.shape root }
+fn next(root: Root<ATTRIBUTES>, geometry: &Geometry) -> Root<ATTRIBUTES>
+    requires root { IsRoot geometry.now.shape root }
     requires number { root.number < 1000 }
     requires session { root.session < 1000 }
-    ensures root { IsRoot layout.now.shape result }
+    ensures root { IsRoot geometry.now.shape result }
     ensures number { result.number ≡ root.number + 1 }
     ensures session { result.session ≡ root.session + 1 }
 {
@@ -209,15 +209,15 @@ fn is_early(root: &Root<ATTRIBUTES>) -> bool
 fn verdict<L: Ledger>(
     alloc: Global,
     disk: &mut Memory,
-    layout: &Layout,
+    geometry: &Geometry,
     steps: &mut Steps<L>,
 ) -> u64
-    requires lawful { IsTrue (is_shape layout.now.shape) }
-    requires attributes { layout.now.shape.k ≡ ATTRIBUTES }
-    requires size { file_pages layout.now.shape * 4096 ≤ extent_of disk.old }
+    requires lawful { IsTrue (is_shape geometry.now.shape) }
+    requires attributes { geometry.now.shape.k ≡ ATTRIBUTES }
+    requires size { file_pages geometry.now.shape * 4096 ≤ extent_of disk.old }
     ensures size { extent_of disk.new ≡ extent_of disk.old }
 {
-    match newest(alloc, disk, layout, steps) {
+    match newest(alloc, disk, geometry, steps) {
         Ok(root) => root.number,
         Err(Refusal::Damaged { page }) => 1000 + u64::from(page),
         Err(_) => 9999,
@@ -228,21 +228,21 @@ fn verdict<L: Ledger>(
 fn advance<L: Ledger>(
     alloc: Global,
     disk: &mut Memory,
-    layout: &Layout,
+    geometry: &Geometry,
     steps: &mut Steps<L>,
 ) -> bool
-    requires lawful { IsTrue (is_shape layout.now.shape) }
-    requires attributes { layout.now.shape.k ≡ ATTRIBUTES }
-    requires size { file_pages layout.now.shape * 4096 ≤ extent_of disk.old }
+    requires lawful { IsTrue (is_shape geometry.now.shape) }
+    requires attributes { geometry.now.shape.k ≡ ATTRIBUTES }
+    requires size { file_pages geometry.now.shape * 4096 ≤ extent_of disk.old }
     ensures size { extent_of disk.new ≡ extent_of disk.old }
 {
-    let root = match newest(alloc, disk, layout, steps) {
+    let root = match newest(alloc, disk, geometry, steps) {
         Ok(root) => root,
         Err(_) => return false,
     };
     if !is_early(&root) {
         return false;
     }
-    let root = next(root, layout);
-    replace_root(disk, layout, &root, steps).is_ok()
+    let root = next(root, geometry);
+    replace_root(disk, geometry, &root, steps).is_ok()
 }

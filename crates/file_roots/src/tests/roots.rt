@@ -11,16 +11,16 @@ use std::test::*;
 fn is_of<L: Ledger>(
     alloc: Global,
     disk: &mut Memory,
-    layout: &Layout,
+    geometry: &Geometry,
     session: u64,
     steps: &mut Steps<L>,
 ) -> bool
-    requires lawful { IsTrue (is_shape layout.now.shape) }
-    requires attributes { layout.now.shape.k ≡ ATTRIBUTES }
-    requires size { file_pages layout.now.shape * 4096 ≤ extent_of disk.old }
+    requires lawful { IsTrue (is_shape geometry.now.shape) }
+    requires attributes { geometry.now.shape.k ≡ ATTRIBUTES }
+    requires size { file_pages geometry.now.shape * 4096 ≤ extent_of disk.old }
     ensures size { extent_of disk.new ≡ extent_of disk.old }
 {
-    match newest(alloc, disk, layout, steps) {
+    match newest(alloc, disk, geometry, steps) {
         Ok(root) => root.session == session && root.scales.scale(0).boundaries().len() == 501,
         Err(_) => false,
     }
@@ -32,15 +32,15 @@ fn takes_turns<L: Ledger>(alloc: Global, blank: Blank) -> Result<bool, AllocErro
     requires parts { blank.parts ≡ L.parts }
     requires some { 0 < L.parts }
 {
-    let layout = small();
+    let geometry = small();
     let mut steps = Steps::<L>::new(blank);
     let mut disk = small_file(alloc)?;
-    let mut all = verdict(alloc, &mut disk, &layout, &mut steps) == 0;
-    all &= advance(alloc, &mut disk, &layout, &mut steps);
-    all &= verdict(alloc, &mut disk, &layout, &mut steps) == 1;
-    all &= advance(alloc, &mut disk, &layout, &mut steps);
-    all &= verdict(alloc, &mut disk, &layout, &mut steps) == 2;
-    Ok(all & is_of(alloc, &mut disk, &layout, 5, &mut steps))
+    let mut all = verdict(alloc, &mut disk, &geometry, &mut steps) == 0;
+    all &= advance(alloc, &mut disk, &geometry, &mut steps);
+    all &= verdict(alloc, &mut disk, &geometry, &mut steps) == 1;
+    all &= advance(alloc, &mut disk, &geometry, &mut steps);
+    all &= verdict(alloc, &mut disk, &geometry, &mut steps) == 2;
+    Ok(all & is_of(alloc, &mut disk, &geometry, 5, &mut steps))
 }
 
 #[test]
@@ -56,16 +56,16 @@ fn roots_take_turns(rt: HostRuntime) -> Result<(), Fail> {
 fn table_of<L: Ledger>(
     alloc: Global,
     disk: &mut Memory,
-    layout: &Layout,
+    geometry: &Geometry,
     number: usize,
     steps: &mut Steps<L>,
 ) -> (u32, usize)
-    requires lawful { IsTrue (is_shape layout.now.shape) }
-    requires attributes { layout.now.shape.k ≡ ATTRIBUTES }
-    requires size { file_pages layout.now.shape * 4096 ≤ extent_of disk.old }
+    requires lawful { IsTrue (is_shape geometry.now.shape) }
+    requires attributes { geometry.now.shape.k ≡ ATTRIBUTES }
+    requires size { file_pages geometry.now.shape * 4096 ≤ extent_of disk.old }
     ensures size { extent_of disk.new ≡ extent_of disk.old }
 {
-    match newest(alloc, disk, layout, steps) {
+    match newest(alloc, disk, geometry, steps) {
         Ok(root) => {
             let table = root.table.list();
             match table.get(number) {
@@ -83,14 +83,14 @@ fn takes_two_pages<L: Ledger>(alloc: Global, blank: Blank) -> Result<bool, Alloc
     requires parts { blank.parts ≡ L.parts }
     requires some { 0 < L.parts }
 {
-    let layout = large();
+    let geometry = large();
     let mut steps = Steps::<L>::new(blank);
     let mut disk = large_file(alloc)?;
-    let mut all = advance(alloc, &mut disk, &layout, &mut steps);
-    all &= verdict(alloc, &mut disk, &layout, &mut steps) == 1;
-    all &= table_of(alloc, &mut disk, &layout, 0, &mut steps) == (1, 1100);
-    all &= table_of(alloc, &mut disk, &layout, 1050, &mut steps) == (2, 1100);
-    Ok(all & (table_of(alloc, &mut disk, &layout, 1051, &mut steps) == (NOWHERE, 1100)))
+    let mut all = advance(alloc, &mut disk, &geometry, &mut steps);
+    all &= verdict(alloc, &mut disk, &geometry, &mut steps) == 1;
+    all &= table_of(alloc, &mut disk, &geometry, 0, &mut steps) == (1, 1100);
+    all &= table_of(alloc, &mut disk, &geometry, 1050, &mut steps) == (2, 1100);
+    Ok(all & (table_of(alloc, &mut disk, &geometry, 1051, &mut steps) == (NOWHERE, 1100)))
 }
 
 #[test]
@@ -105,17 +105,17 @@ fn tells_faults<L: Ledger>(alloc: Global, blank: Blank) -> Result<bool, AllocErr
     requires parts { blank.parts ≡ L.parts }
     requires some { 0 < L.parts }
 {
-    let layout = small();
+    let geometry = small();
     let mut steps = Steps::<L>::new(blank);
     let mut all = true;
     for call in 1..13 {
         let mut disk = small_file(alloc)?;
         disk.fail(call)?;
         all &= matches!(
-            newest(alloc, &mut disk, &layout, &mut steps),
+            newest(alloc, &mut disk, &geometry, &mut steps),
             Err(Refusal::ReadFault)
         );
-        all &= verdict(alloc, &mut disk, &layout, &mut steps) == 0;
+        all &= verdict(alloc, &mut disk, &geometry, &mut steps) == 0;
     }
     Ok(all)
 }

@@ -1,6 +1,6 @@
 //! Keys, as scripts write them.
 ghost use Rattle.std.specs.Prelude.{◌≡◌, ◌≤◌, Some, None, IfSome, IfNone};
-ghost use Rattle.grid_model.specs.Script.{key_of};
+ghost use Rattle.grid_model.specs.Script.{parsed_key};
 
 use crate::number::number_of;
 use crate::reader::pieces::first_piece;
@@ -9,8 +9,8 @@ use grid_types::Key;
 /// The key that a word writes: K numbers with commas between.
 pub fn key_of<const K: usize>(word: &[u8]) -> Option<Key<K>>
     requires { K ≤ 4 }
-    ensures found { IfSome result (λ key. key_of K word.now ≡ Some key.at) }
-    ensures none { IfNone result (key_of K word.now ≡ None) }
+    ensures found { IfSome result (λ key. parsed_key K word.now ≡ Some key.numbers) }
+    ensures none { IfNone result (parsed_key K word.now ≡ None) }
 {
     let mut at = [0; K];
     let mut rest = word;
@@ -27,5 +27,5 @@ pub fn key_of<const K: usize>(word: &[u8]) -> Option<Key<K>>
         rest = after;
         more = further;
     }
-    if more { None } else { Some(Key { at }) }
+    if more { None } else { Some(Key { numbers: at }) }
 }

@@ -1,6 +1,6 @@
 //! What a line says.
 ghost use Rattle.std.specs.Prelude.{◌≡◌, ◌≤◌, ◌∷◌, []};
-ghost use Rattle.grid_model.specs.Script.{number_of, speaks, asks, command, is_comment, meaning};
+ghost use Rattle.grid_model.specs.Script.{parsed_number, speaks, asks, command, is_comment, meaning};
 ghost use Rattle.grid_script.specs.Reading.{meant, words_in};
 
 use crate::number::number_of;
@@ -31,7 +31,7 @@ fn asks<const K: usize>(request: Option<Request<K>>) -> Said<K>
 
 /// The client that a word names: 1 to 16.
 fn speaks<const K: usize>(word: &[u8]) -> Said<K>
-    ensures { meant result ≡ speaks (number_of word.now) }
+    ensures { meant result ≡ speaks (parsed_number word.now) }
 {
     match number_of(word) {
         Some(client) if 1 <= client && client <= 16 => Said::Speaks(client as u32),

@@ -2,7 +2,7 @@
 ghost use Rattle.std.specs.Prelude.{◌≡◌, ◌≤◌, Some, None, IfSome, IfNone};
 ghost use Rattle.std.specs.Option.{option_map};
 ghost use Rattle.grid_types.specs.declared.query.Side.TheVariants.{Exactly};
-ghost use Rattle.grid_model.specs.Script.{number_of, between_of, side_of, query_of};
+ghost use Rattle.grid_model.specs.Script.{parsed_number, parsed_between, parsed_side, parsed_query};
 
 use crate::number::number_of;
 use crate::reader::pieces::first_piece;
@@ -10,7 +10,7 @@ use grid_types::{Query, Side};
 
 /// The side that asks for one number.
 fn exactly(number: &[u8]) -> Option<Side>
-    ensures { result ≡ option_map Exactly (number_of number.now) }
+    ensures { result ≡ option_map Exactly (parsed_number number.now) }
 {
     match number_of(number) {
         Some(wanted) => Some(Side::Exactly(wanted)),
@@ -20,7 +20,7 @@ fn exactly(number: &[u8]) -> Option<Side>
 
 /// The side from one number to another that is not below it.
 fn between(low: &[u8], high: &[u8]) -> Option<Side>
-    ensures { result ≡ between_of (number_of low.now) (number_of high.now) }
+    ensures { result ≡ parsed_between (parsed_number low.now) (parsed_number high.now) }
 {
     let Some(lo) = number_of(low) else {
         return None;
@@ -37,7 +37,7 @@ fn between(low: &[u8], high: &[u8]) -> Option<Side>
 
 /// The side that a word writes: a star, a number, or two numbers with two dots between.
 fn side_of(word: &[u8]) -> Option<Side>
-    ensures { result ≡ side_of word.now }
+    ensures { result ≡ parsed_side word.now }
 {
     if word == b"*".as_slice() {
         return Some(Side::Any);
@@ -57,8 +57,8 @@ fn side_of(word: &[u8]) -> Option<Side>
 /// The query that a word writes: K sides with commas between.
 pub fn query_of<const K: usize>(word: &[u8]) -> Option<Query<K>>
     requires { K ≤ 4 }
-    ensures found { IfSome result (λ query. query_of K word.now ≡ Some query) }
-    ensures none { IfNone result (query_of K word.now ≡ None) }
+    ensures found { IfSome result (λ query. parsed_query K word.now ≡ Some query) }
+    ensures none { IfNone result (parsed_query K word.now ≡ None) }
 {
     let mut sides = [Side::Any; K];
     let mut rest = word;

@@ -1,6 +1,6 @@
 //! What the words of a line ask.
 ghost use Rattle.std.specs.Prelude.{◌≡◌, ◌≤◌};
-ghost use Rattle.grid_model.specs.Script.{key_of, data_of, put_of, alone_of, about_of};
+ghost use Rattle.grid_model.specs.Script.{parsed_key, parsed_data, parsed_put, alone_of, about_of};
 
 use crate::data::data_of;
 use crate::reader::keys::key_of;
@@ -56,7 +56,7 @@ pub fn about_of<const K: usize>(word: &[u8], argument: &[u8]) -> Option<Request<
 /// The put of a key and data.
 pub fn put_of<const K: usize>(key: &[u8], digits: &[u8]) -> Option<Request<K>>
     requires { K ≤ 4 }
-    ensures { result ≡ put_of (key_of K key.now) (data_of digits.now) }
+    ensures { result ≡ parsed_put (parsed_key K key.now) (parsed_data digits.now) }
 {
     let Some(key) = key_of(key) else {
         return None;

@@ -21,11 +21,11 @@ fn printed(alloc: Global, reply: &Reply<2>) -> Result<Vec<u8>, AllocError> {
 fn rows(alloc: Global) -> Result<Rows<2>, AllocError> {
     let mut rows = Rows::new(alloc);
     rows.push(Record {
-        key: Key { at: [1, 2] },
+        key: Key { numbers: [1, 2] },
         value: Data::new(&[10, 255]).unwrap_or_default(),
     })?;
     rows.push(Record {
-        key: Key { at: [u64::MAX, 0] },
+        key: Key { numbers: [u64::MAX, 0] },
         value: Data::default(),
     })?;
     Ok(rows)

@@ -116,17 +116,17 @@ fn reads_lines(rt: HostRuntime) {
         Line {
             client: 1,
             request: Request::Put(Record {
-                key: Key { at: [3, u64::MAX] },
+                key: Key { numbers: [3, u64::MAX] },
                 value: Data::new(&[0, 255, 161]).unwrap_or_default(),
             }),
         },
         Line {
             client: 16,
-            request: Request::Get(Key { at: [12, 0] }),
+            request: Request::Get(Key { numbers: [12, 0] }),
         },
         Line {
             client: 16,
-            request: Request::Remove(Key { at: [0, 0] }),
+            request: Request::Remove(Key { numbers: [0, 0] }),
         },
         Line {
             client: 16,

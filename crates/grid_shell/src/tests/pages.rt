@@ -22,7 +22,7 @@ fn reads_anew<L: Ledger>(lone: &mut Lone<Memory>, blank: Blank) -> Result<bool, 
     requires page { 4096 ≤ extent_of lone.old.disk }
 {
     let mut steps = Steps::<L>::new(blank);
-    let key = Key { at: [3, 7] };
+    let key = Key { numbers: [3, 7] };
     let value = Data::new(b"hi").ok_or("two bytes are data")?;
     let put = lone.put(&Record { key, value }, &mut steps);
     let changed = lone.disk.write(129, b"x");

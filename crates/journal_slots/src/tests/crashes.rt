@@ -25,10 +25,10 @@ fn are_whole(batches: &[Batch<2>]) -> bool {
     true
 }
 
-fn found(alloc: Global, disk: &mut Memory, layout: &Layout) -> Option<usize>
-    requires size { file_pages layout.now.shape * 4096 ≤ extent_of disk.old }
+fn found(alloc: Global, disk: &mut Memory, geometry: &Geometry) -> Option<usize>
+    requires size { file_pages geometry.now.shape * 4096 ≤ extent_of disk.old }
 {
-    match scan(alloc, disk, layout, 7) {
+    match scan(alloc, disk, geometry, 7) {
         Ok(batches) => {
             if are_whole(batches.list()) {
                 Some(batches.list().len())
@@ -41,27 +41,27 @@ fn found(alloc: Global, disk: &mut Memory, layout: &Layout) -> Option<usize>
 }
 
 /// A publication that is cut off after so many calls.
-fn published(alloc: Global, layout: &Layout, calls: u64, keep: Keep) -> Result<Outcome, AllocError>
-    requires slots { layout.now.shape.slots ≡ 3 }
+fn published(alloc: Global, geometry: &Geometry, calls: u64, keep: Keep) -> Result<Outcome, AllocError>
+    requires slots { geometry.now.shape.slots ≡ 3 }
 {
-    let mut disk = Fused::new(closed(alloc, layout)?, calls);
-    let answered = publish(&mut disk, layout, 1, 7, 9);
+    let mut disk = Fused::new(closed(alloc, geometry)?, calls);
+    let answered = publish(&mut disk, geometry, 1, 7, 9);
     let mut image = disk.image(keep)?;
-    let found = found(alloc, &mut image, layout);
+    let found = found(alloc, &mut image, geometry);
     Ok(Outcome { answered, found })
 }
 
 /// A clearing of two batches that is cut off after so many calls.
-fn cleared(alloc: Global, layout: &Layout, calls: u64, keep: Keep) -> Result<Outcome, AllocError>
-    requires slots { layout.now.shape.slots ≡ 3 }
+fn cleared(alloc: Global, geometry: &Geometry, calls: u64, keep: Keep) -> Result<Outcome, AllocError>
+    requires slots { geometry.now.shape.slots ≡ 3 }
 {
-    let mut disk = closed(alloc, layout)?;
-    let _ = publish(&mut disk, layout, 0, 7, 9);
-    let _ = publish(&mut disk, layout, 1, 7, 9);
+    let mut disk = closed(alloc, geometry)?;
+    let _ = publish(&mut disk, geometry, 0, 7, 9);
+    let _ = publish(&mut disk, geometry, 1, 7, 9);
     let mut disk = Fused::new(disk, calls);
-    let answered = clear_half(&mut disk, layout, 1, 2).is_ok();
+    let answered = clear_half(&mut disk, geometry, 1, 2).is_ok();
     let mut image = disk.image(keep)?;
-    let found = found(alloc, &mut image, layout);
+    let found = found(alloc, &mut image, geometry);
     Ok(Outcome { answered, found })
 }
 
@@ -85,13 +85,13 @@ fn left_by_clearing(calls: u64, keep: Keep) -> usize {
 
 #[test]
 fn a_crash_leaves_whole_batches(rt: HostRuntime) -> Result<(), Fail> {
-    let layout = small().ok_or("the shape is lawful")?;
+    let geometry = small().ok_or("the shape is lawful")?;
     for calls in 0..6 {
         for keep in [Keep::All, Keep::None, Keep::Changed] {
-            let run = published(rt.alloc(), &layout, calls, keep)?;
+            let run = published(rt.alloc(), &geometry, calls, keep)?;
             assert_eq!(rt; run.answered, calls >= 4);
             assert_eq!(rt; run.found, Some(left_by_publishing(calls, keep)));
-            let run = cleared(rt.alloc(), &layout, calls, keep)?;
+            let run = cleared(rt.alloc(), &geometry, calls, keep)?;
             assert_eq!(rt; run.answered, calls >= 2);
             assert_eq!(rt; run.found, Some(left_by_clearing(calls, keep)));
         }

@@ -11,29 +11,29 @@ use super::*;
 use arrayvec::ArrayVec;
 use disk_memory::Memory;
 use disk_trait::{Disk, Steps};
-use grid_types::{Cut, Data, Key, Layout, NoteOf, Noted, Record, Refusal, Shape, Update};
+use grid_types::{Cut, Data, Key, Geometry, LayoutChange, LoggedUpdate, Record, Refusal, Shape, Update};
 use std::alloc::{AllocError, Global};
 use std::marker::Brand;
 use std::sync::ledger::{Blank, Ledger};
 
-fn put(at: [u64; 2], bytes: &[u8], note: NoteOf) -> Option<Noted<2>> {
+fn put(at: [u64; 2], bytes: &[u8], note: LayoutChange) -> Option<LoggedUpdate<2>> {
     let value = Data::new(bytes)?;
-    let key = Key { at };
-    Some(Noted {
+    let key = Key { numbers: at };
+    Some(LoggedUpdate {
         update: Update::Put(Record { key, value }),
         note,
     })
 }
 
-fn remove(at: [u64; 2], note: NoteOf) -> Noted<2> {
-    Noted {
-        update: Update::Remove(Key { at }),
+fn remove(at: [u64; 2], note: LayoutChange) -> LoggedUpdate<2> {
+    LoggedUpdate {
+        update: Update::Remove(Key { numbers: at }),
         note,
     }
 }
 
-fn cut(fresh: bool) -> NoteOf {
-    NoteOf::Cut {
+fn cut(fresh: bool) -> LayoutChange {
+    LayoutChange::Cut {
         cut: Cut {
             attribute: 1,
             value: 258,
@@ -46,11 +46,11 @@ fn cut(fresh: bool) -> NoteOf {
 /// A batch with an update of each kind and note, at that place.
 fn of_each_kind(session: u64, first: u64) -> Option<Batch<2>> {
     let mut updates = ArrayVec::new();
-    updates.push(put([3, 7], b"hi", NoteOf::Plain)?);
+    updates.push(put([3, 7], b"hi", LayoutChange::Plain)?);
     updates.push(put([1, u64::MAX], b"", cut(false))?);
     updates.push(put([0, 5], &[255; 40], cut(true))?);
-    updates.push(remove([4, 4], NoteOf::Plain));
-    updates.push(remove([6, 9], NoteOf::Merge { with: 1543 }));
+    updates.push(remove([4, 4], LayoutChange::Plain));
+    updates.push(remove([6, 9], LayoutChange::Merge { with: 1543 }));
     Some(Batch {
         session,
         first,
@@ -70,8 +70,8 @@ fn is_of_each_kind(batch: &Batch<2>, session: u64, first: u64) -> bool {
     again == page
 }
 
-/// The layout of a file with 8 data pages and 3 slots.
-fn small() -> Option<Layout>
+/// The geometry of a file with 8 data pages and 3 slots.
+fn small() -> Option<Geometry>
     ensures { IfSome result (λ l. l.shape.slots ≡ 3) }
 {
     let shape = Shape {
@@ -83,37 +83,37 @@ fn small() -> Option<Layout>
         cells: 1_000_000,
     };
     if shape.lawful() {
-        Some(Layout { shape })
+        Some(Geometry { shape })
     } else {
         None
     }
 }
 
 /// Writes the gate page of half 1 with closed gates.
-fn close_all(disk: &mut Memory, layout: &Layout) -> bool
-    requires size { file_pages layout.now.shape * 4096 ≤ extent_of disk.old }
+fn close_all(disk: &mut Memory, geometry: &Geometry) -> bool
+    requires size { file_pages geometry.now.shape * 4096 ≤ extent_of disk.old }
     ensures { extent_of disk.new ≡ extent_of disk.old }
 {
     let mut page = [9; 4096];
     encode_gates(1, &[0; 3], &mut page);
-    let at = layout.gate_page(1) as u64 * 4096;
+    let at = geometry.gate_page(1) as u64 * 4096;
     disk.write(at, &page).is_ok()
 }
 
 /// A file whose gates are closed.
-fn closed(alloc: Global, layout: &Layout) -> Result<Memory, AllocError>
-    ensures size { IfOk result (λ m. extent_of m ≡ file_pages layout.now.shape * 4096) }
+fn closed(alloc: Global, geometry: &Geometry) -> Result<Memory, AllocError>
+    ensures size { IfOk result (λ m. extent_of m ≡ file_pages geometry.now.shape * 4096) }
 {
-    let mut disk = Memory::new(alloc, layout.shape.file_pages())?;
-    let _ = close_all(&mut disk, layout);
+    let mut disk = Memory::new(alloc, geometry.shape.file_pages())?;
+    let _ = close_all(&mut disk, geometry);
     let _ = disk.sync();
     Ok(disk)
 }
 
 /// Publishes that batch on a slot of half 1.
-fn publish<D: Disk>(disk: &mut D, layout: &Layout, slot: u32, session: u64, first: u64) -> bool
-    requires size { file_pages layout.now.shape * 4096 ≤ D.extent disk.old }
-    requires inside { slot < layout.now.shape.slots }
+fn publish<D: Disk>(disk: &mut D, geometry: &Geometry, slot: u32, session: u64, first: u64) -> bool
+    requires size { file_pages geometry.now.shape * 4096 ≤ D.extent disk.old }
+    requires inside { slot < geometry.now.shape.slots }
     ensures { D.extent disk.new ≡ D.extent disk.old }
 {
     let Some(batch) = of_each_kind(session, first) else {
@@ -122,7 +122,7 @@ fn publish<D: Disk>(disk: &mut D, layout: &Layout, slot: u32, session: u64, firs
     let mut page = [0; 4096];
     encode(&batch, &mut page);
     match decode::<2>(&page) {
-        Some(batch) => publish_batch(disk, layout, 1, slot, &batch).is_ok(),
+        Some(batch) => publish_batch(disk, geometry, 1, slot, &batch).is_ok(),
         None => false,
     }
 }
@@ -130,29 +130,29 @@ fn publish<D: Disk>(disk: &mut D, layout: &Layout, slot: u32, session: u64, firs
 fn scan_with<L: Ledger>(
     alloc: Global,
     disk: &mut Memory,
-    layout: &Layout,
+    geometry: &Geometry,
     session: u64,
     blank: Blank,
 ) -> Result<Batches<2>, Refusal>
-    requires size { file_pages layout.now.shape * 4096 ≤ extent_of disk.old }
+    requires size { file_pages geometry.now.shape * 4096 ≤ extent_of disk.old }
     requires name { blank.name ≡ L.name }
     requires parts { blank.parts ≡ L.parts }
     requires some { 0 < L.parts }
     ensures { extent_of disk.new ≡ extent_of disk.old }
 {
     let mut steps = Steps::<L>::new(blank);
-    scan_half(alloc, disk, layout, 1, session, &mut steps)
+    scan_half(alloc, disk, geometry, 1, session, &mut steps)
 }
 
 /// A scan of half 1 for a session.
 fn scan(
     alloc: Global,
     disk: &mut Memory,
-    layout: &Layout,
+    geometry: &Geometry,
     session: u64,
 ) -> Result<Batches<2>, Refusal>
-    requires size { file_pages layout.now.shape * 4096 ≤ extent_of disk.old }
+    requires size { file_pages geometry.now.shape * 4096 ≤ extent_of disk.old }
     ensures { extent_of disk.new ≡ extent_of disk.old }
 {
-    scan_with::<Brand>(alloc, disk, layout, session, Blank::new(1))
+    scan_with::<Brand>(alloc, disk, geometry, session, Blank::new(1))
 }

@@ -17,7 +17,7 @@ pub returns-then-not-read_rows-clause-none : goal.returns-then-not-read_rows-cla
 returns-then-not-read_rows-clause-none g c = λ b s.
     let there = bucket_there g.row.K c.args.capacity c.args.page.now b c.requires.few c.requires.lawful s.lawful s.bytes in
     let long = c.read_rows.ensures.long c.if-not-read_rows.true in
-    let some : Record g.row.K = record { key = record { at = [] }; value = [] } in
+    let some : Record g.row.K = record { key = record { numbers = [] }; value = [] } in
     let lt : long.0 < length b.rows.items = omega (arith, long.1, there.count, c.get_u16-count.ensures) in
     omega (arith, long.2, (there.rows long.0 some lt).short)
 

@@ -7,7 +7,7 @@ use Rattle.bucket_page.proofs.reading.read_rows.Goals as goal
 pub loop-i-preserved : goal.loop-i-preserved
 loop-i-preserved g c =
     let P : ℕ → Record g.row.K → Type 0 = λ i r. RowAt g.row.K c.args.page.now (96 + 80 * i) r in
-    let r : Record g.row.K = record { key = record { at = c.get_corner.result }; value = c.in-Some.value } in
+    let r : Record g.row.K = record { key = record { numbers = c.get_corner.result }; value = c.in-Some.value } in
     let here : P c.loop-i.i r = record { key = c.get_corner.ensures; value = c.in-Some.ensures.value ∙ ap (λ (n : ℕ). take n (drop (96 + 80 * c.loop-i.i + 33) c.args.page.now)) (omega arith); short = omega arith } in
     record {
       len = omega (arith, c.push.ensures.len, c.loop-i.invariant.len);

@@ -1,6 +1,6 @@
 use Rattle.std.proofs.Common.{◌+◌, ◌*◌, ◌≤◌, arith, refl, subst, sym, length, slice_index, take}
 use Rattle.std.proofs.lemmas.Bool.{false≢true}
-use Rattle.directory_pages.specs.Spelling.{Spells}
+use Rattle.directory_pages.specs.Spelling.{SpellsPart}
 use Rattle.directory_pages.specs.Patching.{patched}
 use Rattle.directory_pages.proofs.Patches.{patched_none, length-patched, named_more, others_more, cells_more}
 use Rattle.directory_pages.proofs.patching.patch.Goals as goal
@@ -10,7 +10,7 @@ loop-i-init c = record {
   long = c.told-page;
   named = λ i yes. absurd (false≢true yes);
   others = λ k out. refl;
-  cells = λ part cells s few. subst (Spells part c.args.page.now) (sym (patched_none c.args.bucket cells)) s;
+  cells = λ part cells s few. subst (SpellsPart part c.args.page.now) (sym (patched_none c.args.bucket cells)) s;
 }
 
 pub loop-i-preserved : goal.loop-i-preserved

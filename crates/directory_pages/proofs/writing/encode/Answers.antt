@@ -1,17 +1,17 @@
 use Rattle.std.proofs.Common.{◌≡◌, ◌∙◌, ap, length, ◌*◌, ◌+◌, ◌++◌, arith, take, ℕ, List}
 use Rattle.page_fields.specs.Padded.{words_of}
 use Rattle.page_fields.proofs.Joining.{filled_up}
-use Rattle.grid_model.specs.Spellings.{page, directory_page}
-use Rattle.directory_pages.specs.Spelling.{head}
+use Rattle.grid_model.specs.Spellings.{page, directory_spelling}
+use Rattle.directory_pages.specs.Spelling.{part_head}
 use Rattle.directory_pages.proofs.Standing.{length-head}
 use Rattle.directory_pages.proofs.writing.encode.Goals as goal
 
 pub returns-clause-written : goal.returns-clause-written
-unfolding directory_page page head
+unfolding directory_spelling page part_head
 returns-clause-written c =
     let cells = c.args.cells.now in
     let n = length cells in
-    let front = head c.args.part n in
+    let front = part_head c.args.part n in
     let known : take (96 + 4 * n) c.put_words.new.page ≡ front ++ words_of cells = c.put_words.ensures.front ∙ ap (λ (f : List ℕ). f ++ words_of cells) c.put_head.ensures.front in
     filled_up 4096 (96 + 4 * n) 96 front (words_of cells) c.put_words.new.page c.put_zeros.new.page known (length-head c.args.part n) (omega (arith, c.put_words.array_long, c.requires.few)) (omega arith) c.put_zeros.ensures.front c.put_zeros.array_long
 

@@ -11,10 +11,10 @@ use Rattle.file_roots.proofs.Exchange.{shown, closed_ready, closing_again, closi
 use Rattle.file_roots.proofs.closing.close_root.Goals as goal
 
 pub read-requires : goal.read-requires
-read-requires g c = header_inside c.args.layout.now.shape (header_page c.args.number) (g.D.Disk.extent c.args.disk.now) c.requires.lawful (header_two c.args.number) c.requires.size
+read-requires g c = header_inside c.args.geometry.now.shape (header_page c.args.number) (g.D.Disk.extent c.args.disk.now) c.requires.lawful (header_two c.args.number) c.requires.size
 
 pub shut-requires : goal.shut-requires
-shut-requires g c = record { size = omega (arith, header_inside c.args.layout.now.shape (header_page c.args.number) (g.D.Disk.extent c.args.disk.now) c.requires.lawful (header_two c.args.number) c.requires.size, c.in-Ok.ensures.extent) }
+shut-requires g c = record { size = omega (arith, header_inside c.args.geometry.now.shape (header_page c.args.number) (g.D.Disk.extent c.args.disk.now) c.requires.lawful (header_two c.args.number) c.requires.size, c.in-Ok.ensures.extent) }
 
 pub returns-in-Ok-shut-clause-closed : goal.returns-in-Ok-shut-clause-closed
 returns-in-Ok-shut-clause-closed g c = λ h.
@@ -43,7 +43,7 @@ returns-in-Err-shut-clause-moments g c = λ h.
 
 pub returns-in-Err-clause-old_or_tried : goal.returns-in-Err-clause-old_or_tried
 returns-in-Err-clause-old_or_tried g c = λ h old tried comes may.
-    let s = c.args.layout.now.shape in
+    let s = c.args.geometry.now.shape in
     let number = c.args.number in
     let header = header_page number in
     let lawful = c.requires.lawful in
@@ -56,7 +56,7 @@ returns-in-Err-clause-old_or_tried g c = λ h old tried comes may.
 
 pub returns-in-Err-clause-again : goal.returns-in-Err-clause-again
 returns-in-Err-clause-again g c = λ h old tried comes may.
-    let s = c.args.layout.now.shape in
+    let s = c.args.geometry.now.shape in
     let number = c.args.number in
     let header = header_page number in
     let lawful = c.requires.lawful in
@@ -69,7 +69,7 @@ returns-in-Err-clause-again g c = λ h old tried comes may.
 
 pub returns-in-Ok-shut-clause-old_or_tried : goal.returns-in-Ok-shut-clause-old_or_tried
 returns-in-Ok-shut-clause-old_or_tried g c = λ h old tried comes may.
-    let s = c.args.layout.now.shape in
+    let s = c.args.geometry.now.shape in
     let number = c.args.number in
     let header = header_page number in
     let lawful = c.requires.lawful in
@@ -87,7 +87,7 @@ returns-in-Ok-shut-clause-old_or_tried g c = λ h old tried comes may.
 
 pub returns-in-Err-shut-clause-old_or_tried : goal.returns-in-Err-shut-clause-old_or_tried
 returns-in-Err-shut-clause-old_or_tried g c = λ h old tried comes may.
-    let s = c.args.layout.now.shape in
+    let s = c.args.geometry.now.shape in
     let number = c.args.number in
     let header = header_page number in
     let lawful = c.requires.lawful in
@@ -105,7 +105,7 @@ returns-in-Err-shut-clause-old_or_tried g c = λ h old tried comes may.
 
 pub returns-in-Ok-shut-clause-ready : goal.returns-in-Ok-shut-clause-ready
 returns-in-Ok-shut-clause-ready g c = λ h old tried comes may.
-    let s = c.args.layout.now.shape in
+    let s = c.args.geometry.now.shape in
     let number = c.args.number in
     let header = header_page number in
     let lawful = c.requires.lawful in
@@ -121,7 +121,7 @@ returns-in-Ok-shut-clause-ready g c = λ h old tried comes may.
 
 pub returns-in-Err-shut-clause-again : goal.returns-in-Err-shut-clause-again
 returns-in-Err-shut-clause-again g c = λ h old tried comes may.
-    let s = c.args.layout.now.shape in
+    let s = c.args.geometry.now.shape in
     let number = c.args.number in
     let header = header_page number in
     let lawful = c.requires.lawful in

@@ -16,19 +16,19 @@ use Rattle.file_roots.proofs.finishing.finish_root.Goals as goal
 
 pub write_on_header-requires : goal.write_on_header-requires
 write_on_header-requires g c =
-    let low = header_inside c.args.layout.now.shape 1 (g.D.Disk.extent c.args.disk.now) c.requires.lawful (omega arith) c.requires.size in
+    let low = header_inside c.args.geometry.now.shape 1 (g.D.Disk.extent c.args.disk.now) c.requires.lawful (omega arith) c.requires.size in
     record { some = omega arith; page = omega arith; size = omega (arith, low, c.in-Ok.ensures.extent) }
 
 pub returns-in-Err-clause-old_or_new : goal.returns-in-Err-clause-old_or_new
 returns-in-Err-clause-old_or_new g c = λ h old comes area ready.
-    let s = c.args.layout.now.shape in
+    let s = c.args.geometry.now.shape in
     let number = c.args.root.now.number in
     weakened g.D.Disk.moment g.D.Disk.left_since c.args.disk.now c.write_fields.new.disk _ _ (c.in-Err.ensures.moments h)
     (λ i from. inr (shows_old s number old i comes (while_fields s number c.requires.lawful old comes from.0 i (ready from.0 from.1) from.2)))
 
 pub returns-in-Err-clause-again : goal.returns-in-Err-clause-again
 returns-in-Err-clause-again g c = λ h old comes area ready.
-    let s = c.args.layout.now.shape in
+    let s = c.args.geometry.now.shape in
     let number = c.args.root.now.number in
     let lawful = c.requires.lawful in
     let mid = c.write_fields.new.disk in
@@ -48,7 +48,7 @@ returns-in-Err-clause-outside g c = λ h. fields_among (header_page c.args.root.
 
 pub returns-clause-old_or_new : goal.returns-clause-old_or_new
 returns-clause-old_or_new g c = λ h old comes area ready.
-    let s = c.args.layout.now.shape in
+    let s = c.args.geometry.now.shape in
     let new = whole_of c.args.root.now in
     let number = c.args.root.now.number in
     let header = header_page number in
@@ -71,7 +71,7 @@ returns-clause-old_or_new g c = λ h old comes area ready.
 
 pub returns-clause-again : goal.returns-clause-again
 returns-clause-again g c = λ h old comes area ready.
-    let s = c.args.layout.now.shape in
+    let s = c.args.geometry.now.shape in
     let new = whole_of c.args.root.now in
     let number = c.args.root.now.number in
     let header = header_page number in
@@ -92,7 +92,7 @@ returns-clause-again g c = λ h old comes area ready.
 
 pub returns-clause-finished : goal.returns-clause-finished
 returns-clause-finished g c = λ h area other.
-    let s = c.args.layout.now.shape in
+    let s = c.args.geometry.now.shape in
     let new = fields_of c.args.root.now in
     let new_area = area_of c.args.root.now in
     let header = header_page new.number in

@@ -10,12 +10,12 @@ use Rattle.file_roots.proofs.finishing.write_fields.Goals as goal
 
 pub fields-requires : goal.fields-requires
 fields-requires g c =
-    let l = lengths c.args.layout.now.shape c.args.root.now c.requires.lawful c.requires.attributes c.requires.root in
+    let l = lengths c.args.geometry.now.shape c.args.root.now c.requires.lawful c.requires.attributes c.requires.root in
     (search rules, (search rules, (l.scales, (omega (arith, l.parts), omega (arith, l.numbers)))))
 
 pub write_on_header-requires : goal.write_on_header-requires
 write_on_header-requires g c =
-    let low = header_inside c.args.layout.now.shape 1 (g.D.Disk.extent c.args.disk.now) c.requires.lawful (omega arith) c.requires.size in
+    let low = header_inside c.args.geometry.now.shape 1 (g.D.Disk.extent c.args.disk.now) c.requires.lawful (omega arith) c.requires.size in
     record { some = omega arith; page = omega arith; size = omega (arith, low) }
 
 pub returns-clause-fields : goal.returns-clause-fields
@@ -25,5 +25,5 @@ returns-clause-fields g c = λ h.
     let seen = g.D.Disk.seen c.args.disk.now in
     let end = g.D.Disk.seen c.write_on_header.new.disk in
     let bytes : c.encode_fields.new.bytes ≡ root_bytes (fields_of root) = c.encode_fields.ensures ∙ ap root_bytes c.fields.ensures in
-    let low : root_fields_at header ≤ length seen = omega (arith, header_inside c.args.layout.now.shape header (g.D.Disk.extent c.args.disk.now) c.requires.lawful (header_two root.number) c.requires.size, g.met.D.Disk.whole c.args.disk.now h) in
+    let low : root_fields_at header ≤ length seen = omega (arith, header_inside c.args.geometry.now.shape header (g.D.Disk.extent c.args.disk.now) c.requires.lawful (header_two root.number) c.requires.size, g.met.D.Disk.whole c.args.disk.now h) in
     on_ok_weaker _ (λ w. fields_are end header ∙ ap (λ (n : ℕ). take n (drop (root_fields_at header) end)) (sym c.encode_fields.array_long) ∙ part_written seen (root_fields_at header) c.encode_fields.new.bytes end low w ∙ bytes) (c.write_on_header.ensures.written h)

@@ -9,7 +9,7 @@ use Rattle.file_roots.proofs.Agreeing.{one_table_of}
 use Rattle.file_roots.proofs.judging.take_part.Goals as goal
 
 pub overflow_add-i : goal.overflow_add-i
-overflow_add-i g c = omega (arith, c.requires.inside, area-small c.args.layout.now.shape c.requires.lawful)
+overflow_add-i g c = omega (arith, c.requires.inside, area-small c.args.geometry.now.shape c.requires.lawful)
 
 pub returns-clause-gathered : goal.returns-clause-gathered
 returns-clause-gathered g c = λ image page had yes.
@@ -19,7 +19,7 @@ returns-clause-gathered g c = λ image page had yes.
 
 pub returns-clause-refused : goal.returns-clause-refused
 returns-clause-refused g c = λ image page had no a further.
-    let s = c.args.layout.now.shape in
+    let s = c.args.geometry.now.shape in
     let r = pages.fields_of c.args.fields.now in
     let new = c.take_page.new.gathered in
     let now = c.in-Ok-true.ensures.gathered image page (record { spelled = had.area.spelled; marked = had.marked }) c.in-Ok-true.field-0-test in

@@ -16,20 +16,20 @@ use Rattle.file_roots.proofs.parts.write_part.Goals as goal
 
 pub encode_part-requires : goal.encode_part-requires
 encode_part-requires g c =
-    let l = lengths c.args.layout.now.shape c.args.root.now c.requires.lawful c.requires.attributes c.requires.root in
+    let l = lengths c.args.geometry.now.shape c.args.root.now c.requires.lawful c.requires.attributes c.requires.root in
     (search rules, (l.scales, (l.boundaries, l.parts)))
 
 pub returns-clause-written : goal.returns-clause-written
 returns-clause-written g c = λ h.
     let seen = g.D.Disk.seen c.args.disk.now in
     let end = g.D.Disk.seen c.write.new.self in
-    let page : c.from-at.result ≡ table_page c.args.layout.now.shape (header_page c.args.root.now.number) c.args.i = c.from-at.ensures ∙ c.table_page.ensures.value in
+    let page : c.from-at.result ≡ table_page c.args.geometry.now.shape (header_page c.args.root.now.number) c.args.i = c.from-at.ensures ∙ c.table_page.ensures.value in
     let low : c.from-at.result * 4096 ≤ length seen = omega (arith, c.from-at.ensures, c.table_page.ensures.inside, c.requires.size, g.met.D.Disk.whole c.args.disk.now h) in
     on_ok_weaker _ (λ w. ap (λ (p : ℕ). page_of p end) (sym page) ∙ page_written seen c.from-at.result _ end low c.encode_part.array_long w ∙ c.encode_part.ensures) (c.write.ensures.written h)
 
 pub returns-clause-changes : goal.returns-clause-changes
 returns-clause-changes g c =
-    let at = table_page c.args.layout.now.shape (header_page c.args.root.now.number) c.args.i * 4096 in
+    let at = table_page c.args.geometry.now.shape (header_page c.args.root.now.number) c.args.i * 4096 in
     let is : c.from-at.result * 4096 ≡ at = ap (λ (n : ℕ). n * 4096) (c.from-at.ensures ∙ c.table_page.ensures.value) in
     let w = c.write.ensures in
     subst (λ n. Changes g.D.Disk (Agrees at n) c.args.disk.now c.write.new.self) c.encode_part.array_long
@@ -38,14 +38,14 @@ returns-clause-changes g c =
 
 pub returns-clause-ready : goal.returns-clause-ready
 returns-clause-ready g c = λ h old comes ready.
-    let s = c.args.layout.now.shape in
+    let s = c.args.geometry.now.shape in
     let number = c.args.root.now.number in
     let area = header_page number in
     λ i may. let from = (returns-clause-changes g c).crash h i may in while_parts s number c.requires.lawful old comes from.0 i (ready from.0 from.1) (part_within s area c.args.i from.0 i (header_two number) c.requires.inside from.2)
 
 pub returns-clause-shows_old : goal.returns-clause-shows_old
 returns-clause-shows_old g c = λ h old comes ready.
-    let s = c.args.layout.now.shape in
+    let s = c.args.geometry.now.shape in
     let number = c.args.root.now.number in
     let area = header_page number in
     weakened g.D.Disk.moment g.D.Disk.left_since c.args.disk.now c.write.new.self _ _ ((returns-clause-changes g c).moments h)

@@ -1,6 +1,6 @@
 use Rattle.std.proofs.Common.{◌<◌, ◌∙◌, arith}
 use Rattle.grid_types.specs.Shapes.{header_page, area_pages}
-use Rattle.grid_model.specs.Images.{area_page}
+use Rattle.grid_model.specs.Images.{area_spelling}
 use Rattle.disk_trait.proofs.Calls.{changes_none, changes_then}
 use Rattle.disk_trait.proofs.Pages.{agrees_same, agrees_then}
 use Rattle.file_roots.specs.Roots.{area_of}
@@ -13,17 +13,17 @@ loop-i-init g c = record { changes = changes_none (agrees_same _ _) (λ k h left
 
 pub returns-in-Err-clause-changes : goal.returns-in-Err-clause-changes
 returns-in-Err-clause-changes g c =
-    let s = c.args.layout.now.shape in
+    let s = c.args.geometry.now.shape in
     let lt : c.loop-i.i < area_pages s = omega (arith, c.loop-i-test.true, c.area_pages-i-end.ensures.value) in
     changes_then (λ x y a. a) (λ x y z a b. agrees_then _ _ x y z a (part_within s (header_page c.args.root.now.number) c.loop-i.i y z (header_two c.args.root.now.number) lt b)) c.loop-i.invariant.changes c.in-Err.ensures.changes
 
 pub loop-i-preserved : goal.loop-i-preserved
 loop-i-preserved g c =
-    let s = c.args.layout.now.shape in
+    let s = c.args.geometry.now.shape in
     let area = header_page c.args.root.now.number in
     let two = header_two c.args.root.now.number in
     let lt : c.loop-i.i < area_pages s = omega (arith, c.loop-i-test.true, c.area_pages-i-end.ensures.value) in
     record {
       changes = changes_then (λ x y a. a) (λ x y z a b. agrees_then _ _ x y z a (part_within s area c.loop-i.i y z two lt b)) c.loop-i.invariant.changes c.in-Ok.ensures.changes;
-      pages = λ h. pages_more s area c.loop-i.i (area_page c.args.root.now.number (area_of c.args.root.now)) _ _ two (c.loop-i.invariant.pages h) (c.in-Ok.ensures.changes.outside (c.loop-i.invariant.changes.honest ∙ h)) (c.in-Ok.ensures.written (c.loop-i.invariant.changes.honest ∙ h));
+      pages = λ h. pages_more s area c.loop-i.i (area_spelling c.args.root.now.number (area_of c.args.root.now)) _ _ two (c.loop-i.invariant.pages h) (c.in-Ok.ensures.changes.outside (c.loop-i.invariant.changes.honest ∙ h)) (c.in-Ok.ensures.written (c.loop-i.invariant.changes.honest ∙ h));
     }

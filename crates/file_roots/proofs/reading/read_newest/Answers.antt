@@ -19,7 +19,7 @@ returns-in-Err-clause-damaged g c = λ h p e. c.in-Err.ensures.damaged h p (pass
 
 pub returns-in-Err-read_area-clause-damaged : goal.returns-in-Err-read_area-clause-damaged
 returns-in-Err-read_area-clause-damaged g c = λ h p e.
-    let s = c.args.layout.now.shape in
+    let s = c.args.geometry.now.shape in
     let r = pages.fields_of c.in-Ok.fields in
     let told = c.in-Ok.ensures.honest ∙ h in
     let begun = c.in-Ok-new.ensures.empty (g.D.Disk.seen c.read_fields.new.disk) r c.in-Ok.ensures.lawful in
@@ -28,7 +28,7 @@ returns-in-Err-read_area-clause-damaged g c = λ h p e.
 
 pub returns-clause-found : goal.returns-clause-found
 returns-clause-found g c = λ h.
-    let s = c.args.layout.now.shape in
+    let s = c.args.geometry.now.shape in
     let seen = g.D.Disk.seen c.args.disk.now in
     let r = pages.fields_of c.in-Ok.fields in
     let gathered = c.read_area.new.gathered in
@@ -39,17 +39,17 @@ returns-clause-found g c = λ h.
     whole_root s seen r _ (area_in gathered) (fields_same r (scales_of gathered.scales) gathered.parts gathered.table area.lawful.boundaries area.lawful.parts area.lawful.buckets) (c.in-Ok.ensures.found h) area
 
 pub returns-in-Err-clause-undamaged : goal.returns-in-Err-clause-undamaged
-returns-in-Err-clause-undamaged g c = λ h r a newest area p e. undamaged c.args.layout.now.shape (g.D.Disk.seen c.args.disk.now) c.requires.lawful r newest a area p (returns-in-Err-clause-damaged g c h p e)
+returns-in-Err-clause-undamaged g c = λ h r a newest area p e. undamaged c.args.geometry.now.shape (g.D.Disk.seen c.args.disk.now) c.requires.lawful r newest a area p (returns-in-Err-clause-damaged g c h p e)
 
 pub returns-in-Err-read_area-clause-undamaged : goal.returns-in-Err-read_area-clause-undamaged
-returns-in-Err-read_area-clause-undamaged g c = λ h r a newest area p e. undamaged c.args.layout.now.shape (g.D.Disk.seen c.args.disk.now) c.requires.lawful r newest a area p (returns-in-Err-read_area-clause-damaged g c h p e)
+returns-in-Err-read_area-clause-undamaged g c = λ h r a newest area p e. undamaged c.args.geometry.now.shape (g.D.Disk.seen c.args.disk.now) c.requires.lawful r newest a area p (returns-in-Err-read_area-clause-damaged g c h p e)
 
 pub returns-clause-only : goal.returns-clause-only
-returns-clause-only g c = λ h r a newest area. only_whole c.args.layout.now.shape (g.D.Disk.seen c.args.disk.now) r _ a _ c.requires.lawful newest area (returns-clause-found g c h)
+returns-clause-only g c = λ h r a newest area. only_whole c.args.geometry.now.shape (g.D.Disk.seen c.args.disk.now) r _ a _ c.requires.lawful newest area (returns-clause-found g c h)
 
 pub returns-clause-lawful : goal.returns-clause-lawful
 returns-clause-lawful g c =
-    let s = c.args.layout.now.shape in
+    let s = c.args.geometry.now.shape in
     let r = pages.fields_of c.in-Ok.fields in
     let gathered = c.read_area.new.gathered in
     let begun : MayBeGathered s r 0 c.in-Ok-new.gathered = record { image = replicate (file_pages s * 4096) 0; long = zeros_long s; gathered = c.in-Ok-new.ensures.empty (replicate (file_pages s * 4096) 0) r c.in-Ok.ensures.lawful } in

@@ -4,7 +4,7 @@ use Rattle.file_roots.proofs.reading.read_part.Goals as goal
 
 pub returns-in-Ok-true-clause-lawful : goal.returns-in-Ok-true-clause-lawful
 returns-in-Ok-true-clause-lawful g c = λ may.
-    let s = c.args.layout.now.shape in
+    let s = c.args.geometry.now.shape in
     let r = pages.fields_of c.args.fields.now in
     let page = c.read.new.out in
     record {

@@ -12,7 +12,7 @@ use Rattle.file_roots.proofs.replacing.replace_root.Goals as goal
 
 pub returns-in-Err-clause-old_or_new : goal.returns-in-Err-clause-old_or_new
 returns-in-Err-clause-old_or_new g c = λ h old tried comes may.
-    let s = c.args.layout.now.shape in
+    let s = c.args.geometry.now.shape in
     let number = c.args.root.now.number in
     let header = header_page number in
     let lawful = c.requires.lawful in
@@ -23,7 +23,7 @@ returns-in-Err-clause-old_or_new g c = λ h old tried comes may.
 
 pub returns-in-Err-clause-again : goal.returns-in-Err-clause-again
 returns-in-Err-clause-again g c = λ h old tried comes may.
-    let s = c.args.layout.now.shape in
+    let s = c.args.geometry.now.shape in
     let number = c.args.root.now.number in
     let header = header_page number in
     let lawful = c.requires.lawful in
@@ -33,14 +33,14 @@ returns-in-Err-clause-again g c = λ h old tried comes may.
 
 pub returns-in-Err-clause-elsewhere : goal.returns-in-Err-clause-elsewhere
 returns-in-Err-clause-elsewhere g c = λ h.
-    weakened g.D.Disk.moment g.D.Disk.left_since c.args.disk.now c.close_root.new.disk _ _ (c.in-Err.ensures.moments h) (λ i from. (from.0, from.1, gate_of_root c.args.layout.now.shape (header_page c.args.root.now.number) from.0 i from.2))
+    weakened g.D.Disk.moment g.D.Disk.left_since c.args.disk.now c.close_root.new.disk _ _ (c.in-Err.ensures.moments h) (λ i from. (from.0, from.1, gate_of_root c.args.geometry.now.shape (header_page c.args.root.now.number) from.0 i from.2))
 
 pub returns-in-Err-clause-outside : goal.returns-in-Err-clause-outside
-returns-in-Err-clause-outside g c = λ h. gate_of_root c.args.layout.now.shape (header_page c.args.root.now.number) _ _ (c.in-Err.ensures.outside h)
+returns-in-Err-clause-outside g c = λ h. gate_of_root c.args.geometry.now.shape (header_page c.args.root.now.number) _ _ (c.in-Err.ensures.outside h)
 
 pub returns-in-Err-write_parts-clause-old_or_new : goal.returns-in-Err-write_parts-clause-old_or_new
 returns-in-Err-write_parts-clause-old_or_new g c = λ h old tried comes may.
-    let s = c.args.layout.now.shape in
+    let s = c.args.geometry.now.shape in
     let number = c.args.root.now.number in
     let header = header_page number in
     let lawful = c.requires.lawful in
@@ -56,7 +56,7 @@ returns-in-Err-write_parts-clause-old_or_new g c = λ h old tried comes may.
 
 pub returns-in-Err-write_parts-clause-again : goal.returns-in-Err-write_parts-clause-again
 returns-in-Err-write_parts-clause-again g c = λ h old tried comes may.
-    let s = c.args.layout.now.shape in
+    let s = c.args.geometry.now.shape in
     let number = c.args.root.now.number in
     let header = header_page number in
     let lawful = c.requires.lawful in
@@ -73,7 +73,7 @@ returns-in-Err-write_parts-clause-again g c = λ h old tried comes may.
 
 pub returns-in-Err-write_parts-clause-elsewhere : goal.returns-in-Err-write_parts-clause-elsewhere
 returns-in-Err-write_parts-clause-elsewhere g c = λ h.
-    let s = c.args.layout.now.shape in
+    let s = c.args.geometry.now.shape in
     let header = header_page c.args.root.now.number in
     let told = c.in-Ok.ensures.honest ∙ h in
     let mid = c.close_root.new.disk in
@@ -84,13 +84,13 @@ returns-in-Err-write_parts-clause-elsewhere g c = λ h.
 
 pub returns-in-Err-write_parts-clause-outside : goal.returns-in-Err-write_parts-clause-outside
 returns-in-Err-write_parts-clause-outside g c = λ h.
-    let s = c.args.layout.now.shape in
+    let s = c.args.geometry.now.shape in
     let header = header_page c.args.root.now.number in
     outside_then _ _ (g.D.Disk.seen c.close_root.new.disk) _ (gate_of_root s header _ _ (c.in-Ok.ensures.outside h)) (area_of_root s header _ _ (c.in-Err-write_parts.ensures.outside (c.in-Ok.ensures.honest ∙ h)))
 
 pub returns-in-Ok-finish_root-clause-old_or_new : goal.returns-in-Ok-finish_root-clause-old_or_new
 returns-in-Ok-finish_root-clause-old_or_new g c = λ h old tried comes may.
-    let s = c.args.layout.now.shape in
+    let s = c.args.geometry.now.shape in
     let number = c.args.root.now.number in
     let header = header_page number in
     let lawful = c.requires.lawful in
@@ -109,7 +109,7 @@ returns-in-Ok-finish_root-clause-old_or_new g c = λ h old tried comes may.
 
 pub returns-in-Err-finish_root-clause-old_or_new : goal.returns-in-Err-finish_root-clause-old_or_new
 returns-in-Err-finish_root-clause-old_or_new g c = λ h old tried comes may.
-    let s = c.args.layout.now.shape in
+    let s = c.args.geometry.now.shape in
     let number = c.args.root.now.number in
     let header = header_page number in
     let lawful = c.requires.lawful in
@@ -128,7 +128,7 @@ returns-in-Err-finish_root-clause-old_or_new g c = λ h old tried comes may.
 
 pub returns-in-Err-finish_root-clause-again : goal.returns-in-Err-finish_root-clause-again
 returns-in-Err-finish_root-clause-again g c = λ h old tried comes may.
-    let s = c.args.layout.now.shape in
+    let s = c.args.geometry.now.shape in
     let number = c.args.root.now.number in
     let header = header_page number in
     let lawful = c.requires.lawful in
@@ -145,7 +145,7 @@ returns-in-Err-finish_root-clause-again g c = λ h old tried comes may.
 
 pub returns-in-Ok-finish_root-clause-replaced : goal.returns-in-Ok-finish_root-clause-replaced
 returns-in-Ok-finish_root-clause-replaced g c = λ h other.
-    let s = c.args.layout.now.shape in
+    let s = c.args.geometry.now.shape in
     let number = c.args.root.now.number in
     let header = header_page number in
     let told = c.in-Ok.ensures.honest ∙ h in
@@ -156,7 +156,7 @@ returns-in-Ok-finish_root-clause-replaced g c = λ h other.
 
 pub returns-in-Ok-finish_root-clause-elsewhere : goal.returns-in-Ok-finish_root-clause-elsewhere
 returns-in-Ok-finish_root-clause-elsewhere g c = λ h.
-    let s = c.args.layout.now.shape in
+    let s = c.args.geometry.now.shape in
     let header = header_page c.args.root.now.number in
     let told = c.in-Ok.ensures.honest ∙ h in
     let still = c.in-Ok-write_parts.ensures.honest ∙ told in
@@ -169,7 +169,7 @@ returns-in-Ok-finish_root-clause-elsewhere g c = λ h.
 
 pub returns-in-Err-finish_root-clause-elsewhere : goal.returns-in-Err-finish_root-clause-elsewhere
 returns-in-Err-finish_root-clause-elsewhere g c = λ h.
-    let s = c.args.layout.now.shape in
+    let s = c.args.geometry.now.shape in
     let header = header_page c.args.root.now.number in
     let told = c.in-Ok.ensures.honest ∙ h in
     let still = c.in-Ok-write_parts.ensures.honest ∙ told in
@@ -182,7 +182,7 @@ returns-in-Err-finish_root-clause-elsewhere g c = λ h.
 
 pub returns-in-Ok-finish_root-clause-outside : goal.returns-in-Ok-finish_root-clause-outside
 returns-in-Ok-finish_root-clause-outside g c = λ h.
-    let s = c.args.layout.now.shape in
+    let s = c.args.geometry.now.shape in
     let header = header_page c.args.root.now.number in
     let told = c.in-Ok.ensures.honest ∙ h in
     outside_then _ _ (g.D.Disk.seen c.close_root.new.disk) _ (gate_of_root s header _ _ (c.in-Ok.ensures.outside h))
@@ -190,7 +190,7 @@ returns-in-Ok-finish_root-clause-outside g c = λ h.
 
 pub returns-in-Err-finish_root-clause-outside : goal.returns-in-Err-finish_root-clause-outside
 returns-in-Err-finish_root-clause-outside g c = λ h.
-    let s = c.args.layout.now.shape in
+    let s = c.args.geometry.now.shape in
     let header = header_page c.args.root.now.number in
     let told = c.in-Ok.ensures.honest ∙ h in
     outside_then _ _ (g.D.Disk.seen c.close_root.new.disk) _ (gate_of_root s header _ _ (c.in-Ok.ensures.outside h))

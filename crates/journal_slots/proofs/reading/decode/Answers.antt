@@ -1,6 +1,6 @@
 use Rattle.std.proofs.Common.{◌≡◌, ◌∙◌, ap, sym, subst, arith}
 use Rattle.std.proofs.lemmas.Bool.{false≢true}
-use Rattle.grid_model.specs.Spellings.{Batch, slot_page}
+use Rattle.grid_model.specs.Spellings.{LoggedBatch, slot_spelling}
 use Rattle.journal_slots.specs.Reading.{IsLawful, BatchAt}
 use Rattle.journal_slots.proofs.Standing.{batch_there}
 use Rattle.journal_slots.proofs.Alone.{one_batch, made, lawful_of}
@@ -20,7 +20,7 @@ pub returns-then-is_spelled-clause-found : goal.returns-then-is_spelled-clause-f
 returns-then-is_spelled-clause-found g c =
     let yes = c.if-is_spelled.true in
     let ok = c.if-not-read_updates.false in
-    let b : Batch g.row.K = record { session = c.get_u64.result; first = c.get_u64-2.result; updates = c.read_updates.new.updates.items } in
+    let b : LoggedBatch g.row.K = record { session = c.get_u64.result; first = c.get_u64-2.result; updates = c.read_updates.new.updates.items } in
     let read : BatchAt g.row.K c.args.page.now b = record {
       session = c.get_u64.ensures;
       in_range = omega arith;
@@ -49,7 +49,7 @@ pub returns-else-is_spelled-clause-none : goal.returns-else-is_spelled-clause-no
 returns-else-is_spelled-clause-none g c = λ b s.
     let ok = c.if-not-read_updates.false in
     let there = batch_there g.row.K c.args.page.now b c.requires.few s.lawful s.spelled in
-    let found : Batch g.row.K = record { session = c.get_u64.result; first = c.get_u64-2.result; updates = c.read_updates.new.updates.items } in
+    let found : LoggedBatch g.row.K = record { session = c.get_u64.result; first = c.get_u64-2.result; updates = c.read_updates.new.updates.items } in
     let same : b ≡ found = one_batch g.row.K c.args.page.now b found there (record {
       session = c.get_u64.ensures;
       in_range = omega arith;
@@ -57,5 +57,5 @@ returns-else-is_spelled-clause-none g c = λ b s.
       count = c.read_updates.ensures.count ok ∙ c.get_u16-count.ensures;
       updates = c.read_updates.ensures.found ok;
     }) in
-    let yes = c.is_spelled.ensures.all (subst IsLawful same (lawful_of b s.lawful)) (s.spelled ∙ ap slot_page same) in
+    let yes = c.is_spelled.ensures.all (subst IsLawful same (lawful_of b s.lawful)) (s.spelled ∙ ap slot_spelling same) in
     false≢true (sym c.if-is_spelled.false ∙ yes)

@@ -20,7 +20,7 @@ part_is n out = ap (λ (k : ℕ). take k (drop 96 out)) (omega arith)
 
 pub returns-in-Ok-scan_slots-clause-found : goal.returns-in-Ok-scan_slots-clause-found
 returns-in-Ok-scan_slots-clause-found g c = λ h.
-    let s = c.args.layout.now.shape in
+    let s = c.args.geometry.now.shape in
     let image = g.D.Disk.seen c.args.disk.now in
     let out = c.read_page.new.out in
     let gates = gates_in c.slots_of-slots.result out in
@@ -33,12 +33,12 @@ returns-in-Ok-scan_slots-clause-found g c = λ h.
 
 pub returns-in-Ok-scan_slots-clause-only : goal.returns-in-Ok-scan_slots-clause-only
 returns-in-Ok-scan_slots-clause-only g c = λ h cs is.
-    one_scan c.args.layout.now.shape (g.D.Disk.seen c.args.disk.now) c.requires.few c.args.half c.args.session c.scan_slots.new.found cs (returns-in-Ok-scan_slots-clause-found g c h) is
+    one_scan c.args.geometry.now.shape (g.D.Disk.seen c.args.disk.now) c.requires.few c.args.half c.args.session c.scan_slots.new.found cs (returns-in-Ok-scan_slots-clause-found g c h) is
 
 pub returns-in-Ok-scan_slots-clause-ticks : goal.returns-in-Ok-scan_slots-clause-ticks
 returns-in-Ok-scan_slots-clause-ticks g c = λ h gates has.
     let out = c.read_page.new.out in
-    let s = c.args.layout.now.shape in
+    let s = c.args.geometry.now.shape in
     let read = gates_read s (g.D.Disk.seen c.args.disk.now) c.args.half c.gate_page-gate_page.result c.slots_of-slots.result out (c.in-Ok.ensures.bytes h) c.gate_page-gate_page.ensures.value c.slots_of-slots.ensures.value c.slots_of-slots.ensures.few c.read_page.array_long (c.is_gate_page.ensures.gates c.if-not-is_gate_page.false) in
     let same : take (96 + c.slots_of-slots.result - 96) (drop 96 out) ≡ gates = part_is c.slots_of-slots.result out ∙ the_gates s (g.D.Disk.seen c.args.disk.now) c.args.half _ read ∙ sym (the_gates s (g.D.Disk.seen c.args.disk.now) c.args.half gates has) in
     let count : length (open_slots_of (take (96 + c.slots_of-slots.result - 96) (drop 96 out)) c.args.half) ≡ length (open_slots_of gates c.args.half) = ap (λ (gs : List ℕ). length (open_slots_of gs c.args.half)) same in
@@ -46,7 +46,7 @@ returns-in-Ok-scan_slots-clause-ticks g c = λ h gates has.
 
 pub returns-in-Err-scan_slots-clause-damaged : goal.returns-in-Err-scan_slots-clause-damaged
 returns-in-Err-scan_slots-clause-damaged g c = λ h p is.
-    let s = c.args.layout.now.shape in
+    let s = c.args.geometry.now.shape in
     let image = g.D.Disk.seen c.args.disk.now in
     let out = c.read_page.new.out in
     let gates = gates_in c.slots_of-slots.result out in
@@ -59,7 +59,7 @@ returns-in-Err-scan_slots-clause-damaged g c = λ h p is.
 
 pub returns-in-Err-scan_slots-clause-no_memory : goal.returns-in-Err-scan_slots-clause-no_memory
 returns-in-Err-scan_slots-clause-no_memory g c = λ h is.
-    let s = c.args.layout.now.shape in
+    let s = c.args.geometry.now.shape in
     let out = c.read_page.new.out in
     let gates = gates_in c.slots_of-slots.result out in
     record {

@@ -15,15 +15,15 @@ loop-slot-preserved-then-not-is_open g c =
     record {
       same = was.same;
       steps = was.steps ∙ ap (λ (slots : List (ℕ × ℕ)). c.args.steps.now + length slots) (sym same);
-      found = λ h. subst (λ (slots : List (ℕ × ℕ)). AreBatchesOn c.args.layout.now.shape (g.D.Disk.seen c.args.disk.now) slots c.args.session c.loop-slot.found) (sym same) (was.found h);
-      before = λ h. before_same c.args.layout.now.shape (g.D.Disk.seen c.args.disk.now) c.args.session c.args.gates.now c.args.half c.loop-slot.slot closed (was.before h);
+      found = λ h. subst (λ (slots : List (ℕ × ℕ)). AreBatchesOn c.args.geometry.now.shape (g.D.Disk.seen c.args.disk.now) slots c.args.session c.loop-slot.found) (sym same) (was.found h);
+      before = λ h. before_same c.args.geometry.now.shape (g.D.Disk.seen c.args.disk.now) c.args.session c.args.gates.now c.args.half c.loop-slot.slot closed (was.before h);
     }
 
 pub loop-slot-preserved : goal.loop-slot-preserved
 loop-slot-preserved g c =
     let was = c.loop-slot.invariant in
     let now = c.in-Ok.ensures in
-    let s = c.args.layout.now.shape in
+    let s = c.args.geometry.now.shape in
     let image = g.D.Disk.seen c.args.disk.now in
     let one : slice_index c.args.gates.now c.loop-slot.slot ≡ 1 = c.is_open.ensures.0 c.if-not-is_open.false in
     record {
@@ -51,7 +51,7 @@ returns-in-Err-clause-damaged g c = λ h p is.
 pub returns-in-Err-clause-no_memory : goal.returns-in-Err-clause-no_memory
 returns-in-Err-clause-no_memory g c = λ h is.
     let was = c.loop-slot.invariant in
-    let bytes : page_of c.slot_page-page.result (g.D.Disk.seen c.loop-slot.disk) ≡ page_of (slot_page c.args.layout.now.shape c.args.half c.loop-slot.slot) (g.D.Disk.seen c.args.disk.now) =
+    let bytes : page_of c.slot_page-page.result (g.D.Disk.seen c.loop-slot.disk) ≡ page_of (slot_page c.args.geometry.now.shape c.args.half c.loop-slot.slot) (g.D.Disk.seen c.args.disk.now) =
     λ i. page_of (c.slot_page-page.ensures.value i) (was.same.seen h i) in
     record {
       slot = c.loop-slot.slot;

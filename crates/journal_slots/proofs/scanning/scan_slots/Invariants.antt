@@ -11,6 +11,6 @@ abbrev pub invariant-loop-slot : goal.invariant-loop-slot
 invariant-loop-slot g l = record {
   same : OnlyReads g.D.Disk l.initial.disk l.disk;
   steps : l.steps ≡ l.initial.steps + length (open_below l.gates l.half l.slot);
-  found : IsTrue (g.D.Disk.honest l.initial.disk) → AreBatchesOn l.layout.shape (g.D.Disk.seen l.initial.disk) (open_below l.gates l.half l.slot) l.session l.found;
-  before : IsTrue (g.D.Disk.honest l.initial.disk) → (i : ℕ) → i < l.slot → slice_index l.gates i ≡ 1 → SpellsSome g.row.K (page_of (slot_page l.layout.shape l.half i) (g.D.Disk.seen l.initial.disk));
+  found : IsTrue (g.D.Disk.honest l.initial.disk) → AreBatchesOn l.geometry.shape (g.D.Disk.seen l.initial.disk) (open_below l.gates l.half l.slot) l.session l.found;
+  before : IsTrue (g.D.Disk.honest l.initial.disk) → (i : ℕ) → i < l.slot → slice_index l.gates i ≡ 1 → SpellsSome g.row.K (page_of (slot_page l.geometry.shape l.half i) (g.D.Disk.seen l.initial.disk));
 }

@@ -8,10 +8,10 @@ unfolding slot_gate_at
 returns-clause-value c = omega (arith, c.gate_page.ensures.value)
 
 pub returns-clause-inside : goal.returns-clause-inside
-returns-clause-inside c = omega (arith, c.gate_page.ensures.inside, c.requires.inside, (within-limits c.args.layout.now.shape c.args.layout.now.lawful).few_slots)
+returns-clause-inside c = omega (arith, c.gate_page.ensures.inside, c.requires.inside, (within-limits c.args.geometry.now.shape c.args.geometry.now.lawful).few_slots)
 
 pub returns-clause-in_page : goal.returns-clause-in_page
-returns-clause-in_page c = omega (arith, c.requires.inside, (within-limits c.args.layout.now.shape c.args.layout.now.lawful).few_slots)
+returns-clause-in_page c = omega (arith, c.requires.inside, (within-limits c.args.geometry.now.shape c.args.geometry.now.lawful).few_slots)
 
 pub returns-clause-few : goal.returns-clause-few
-returns-clause-few c = (within-limits c.args.layout.now.shape c.args.layout.now.lawful).few_slots
+returns-clause-few c = (within-limits c.args.geometry.now.shape c.args.geometry.now.lawful).few_slots

@@ -1,12 +1,12 @@
 use Rattle.std.proofs.Common.{◌≡◌, ◌∙◌, ap, length, ◌*◌, ◌+◌, ◌++◌, arith, take, codes, refl, ℕ, List}
 use Rattle.page_fields.specs.Padded.{padded, numbers}
 use Rattle.page_fields.proofs.Joining.{filled_up}
-use Rattle.grid_model.specs.Spellings.{page, area_head, scale_page}
+use Rattle.grid_model.specs.Spellings.{page, area_head, scale_spelling}
 use Rattle.root_pages.proofs.Heads.{length-head}
 use Rattle.root_pages.proofs.area_writing.encode_scale.Goals as goal
 
 pub returns-clause-written : goal.returns-clause-written
-unfolding scale_page page
+unfolding scale_spelling page
 returns-clause-written c =
     let bs = c.args.boundaries.now in
     let n = length bs in

@@ -1,6 +1,6 @@
 use Rattle.std.proofs.Common.{◌≡◌, ◌∙◌, sym, [], ◌++◌, codes, drop}
 use Rattle.std.proofs.lemmas.List.{append-nil}
-use Rattle.grid_model.specs.Spellings.{root_bytes, scale_page, list_page, bucket_table_page}
+use Rattle.grid_model.specs.Spellings.{root_bytes, scale_spelling, list_spelling, bucket_table_spelling}
 use Rattle.root_pages.proofs.ShapePlaces.{shape_there, one_shape}
 use Rattle.root_pages.proofs.RootPlaces.{fields_there, one_root}
 use Rattle.root_pages.proofs.KindsOfPages.{scales, lists, tables, one_list_of}
@@ -17,10 +17,10 @@ returns-clause-roots c = λ K r q few x y e.
     one_root 0 page r q (x.attributes ∙ sym y.attributes) (fields_there 0 page r [] first K few x) (fields_there 0 page q [] second K few y)
 
 pub returns-clause-scales : goal.returns-clause-scales
-returns-clause-scales c = one_list_of 8 (codes "GFS1") scale_page 500 64 scales
+returns-clause-scales c = one_list_of 8 (codes "GFS1") scale_spelling 500 64 scales
 
 pub returns-clause-lists : goal.returns-clause-lists
-returns-clause-lists c = one_list_of 4 (codes "GFL1") list_page 1000 32 lists
+returns-clause-lists c = one_list_of 4 (codes "GFL1") list_spelling 1000 32 lists
 
 pub returns-clause-tables : goal.returns-clause-tables
-returns-clause-tables c = one_list_of 4 (codes "GFT1") bucket_table_page 1000 32 tables
+returns-clause-tables c = one_list_of 4 (codes "GFT1") bucket_table_spelling 1000 32 tables

@@ -1,5 +1,5 @@
 use Rattle.std.proofs.Common.{◌∙◌, refl, ap, arith}
-use Rattle.grid_model.specs.Tables.{entries_of}
+use Rattle.grid_model.specs.Tables.{pairs_of}
 use Rattle.bucket_page.specs.declared.bucket.Bucket.{Bucket}
 use Rattle.disk_trait.proofs.Pages.{page_written}
 use Rattle.grid_shell.proofs.Buckets.{empty_is_bucket, stands}
@@ -10,5 +10,5 @@ returns-in-Ok-clause-stands g c = λ h.
     let b : Bucket g.row.K = record { number = 0; turn = 0; region = c.whole.result; rows = c.new.result } in
     stands g.row.K c.args.capacity _ _ b
     (empty_is_bucket g.row.K c.args.capacity b c.requires.some refl refl c.whole.ensures.low c.whole.ensures.high c.new.ensures)
-    refl c.whole.ensures.every (ap entries_of c.new.ensures)
+    refl c.whole.ensures.every (ap pairs_of c.new.ensures)
     (page_written _ 0 c.encode.new.page _ (omega arith) c.encode.array_long (c.in-Ok.ensures.written h) ∙ c.encode.ensures.written)

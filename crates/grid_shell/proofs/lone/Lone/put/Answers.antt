@@ -10,7 +10,7 @@ returns-in-Err-clause-undamaged g c = λ h e t s. c.in-Err.ensures.undamaged h (
 pub returns-clause-stands : goal.returns-clause-stands
 returns-clause-stands g c = λ h t s.
     let told = c.in-Ok.ensures.honest ∙ h in
-    stands-put g.row.K c.args.self.now.capacity c.bucket_of.new.self.capacity t _ _ c.in-Ok.bucket c.put_within.new.bucket c.args.row.now.key.at c.args.row.now.value s
+    stands-put g.row.K c.args.self.now.capacity c.bucket_of.new.self.capacity t _ _ c.in-Ok.bucket c.put_within.new.bucket c.args.row.now.key.numbers c.args.row.now.value s
     (c.in-Ok.ensures.only h s.bucket s.has)
     c.in-Ok.ensures.same.1
     (c.in-Some.ensures.bucket (c.in-Ok.ensures.found h).1)

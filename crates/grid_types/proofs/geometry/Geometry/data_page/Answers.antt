@@ -1,6 +1,6 @@
 use Rattle.std.proofs.Common.{arith}
 use Rattle.grid_types.proofs.Places.{within-limits, data-page-lies}
-use Rattle.grid_types.proofs.layout.Layout.data_page.Goals as goal
+use Rattle.grid_types.proofs.geometry.Geometry.data_page.Goals as goal
 
 pub overflow_mul-result-2 : goal.overflow_mul-result-2
 overflow_mul-result-2 c = let w = within-limits c.args.self.now.shape c.args.self.now.lawful in omega (arith, w.few_slots)

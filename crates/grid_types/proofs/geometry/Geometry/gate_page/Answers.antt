@@ -2,7 +2,7 @@ use Rattle.std.proofs.Common.{ap, arith}
 use Rattle.grid_types.specs.Shapes.{gate_page}
 use Rattle.grid_types.specs.Halves.{half_number}
 use Rattle.grid_types.proofs.Places.{within-limits, gate-page, gate-page-lies}
-use Rattle.grid_types.proofs.layout.Layout.gate_page_of.Goals as goal
+use Rattle.grid_types.proofs.geometry.Geometry.gate_page.Goals as goal
 
 pub overflow_add-result-in-Second-2 : goal.overflow_add-result-in-Second-2
 overflow_add-result-in-Second-2 c = let w = within-limits c.args.self.now.shape c.args.self.now.lawful in omega (arith, w.few_slots, c.area_pages-pages.ensures.small)

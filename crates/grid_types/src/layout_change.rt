@@ -1,4 +1,4 @@
-//! What an update does to the layout of the file.
+//! What an update does to the geometry of the file.
 
 use crate::Update;
 
@@ -11,9 +11,9 @@ pub struct Cut {
     pub fresh: bool,
 }
 
-/// What an update does to the layout.
+/// What an update does to the geometry.
 #[derive(Clone, Copy, Debug, Default, PartialEq, Eq)]
-pub enum NoteOf {
+pub enum LayoutChange {
     /// Nothing.
     #[default]
     Plain,
@@ -23,9 +23,9 @@ pub enum NoteOf {
     Merge { with: u32 },
 }
 
-/// An update, with what it does to the layout.
+/// An update, with what it does to the geometry.
 #[derive(Debug, Default, Drop, PartialEq, Eq)]
-pub struct Noted<const K: usize> {
+pub struct LoggedUpdate<const K: usize> {
     pub update: Update<K>,
-    pub note: NoteOf,
+    pub note: LayoutChange,
 }

@@ -7,26 +7,26 @@ use crate::{Half, Shape};
 
 /// Where the pages of a file of a shape are. All page numbers are of the file.
 #[derive(Clone, Copy, Debug, PartialEq, Eq)]
-pub struct Layout {
+pub struct Geometry {
     pub shape: Shape,
     pub ghost lawful: { IsTrue (is_shape shape) },
 }
 
-impl Layout {
-    /// The layout of a shape, where that is lawful.
-    pub fn new(shape: Shape) -> Option<Layout>
+impl Geometry {
+    /// The geometry of a shape, where that is lawful.
+    pub fn new(shape: Shape) -> Option<Geometry>
         ensures found { IsSome result ↔ IsTrue (is_shape shape) }
         ensures value { IfSome result (λ l. l.shape ≡ shape) }
     {
         if shape.lawful() {
-            Some(Layout { shape })
+            Some(Geometry { shape })
         } else {
             None
         }
     }
 
     /// The gate page of a half of the journal.
-    pub fn gate_page_of(&self, half: Half) -> u32
+    pub fn gate_page(&self, half: Half) -> u32
         ensures value { result ≡ gate_page self.now.shape (half_number half) }
         ensures inside { result < file_pages self.now.shape }
         ensures small { result ≤ 10000 }
@@ -39,12 +39,12 @@ impl Layout {
     }
 
     /// The page of slot `i` of a half of the journal.
-    pub fn slot_page_of(&self, half: Half, i: u32) -> u32
+    pub fn slot_page(&self, half: Half, i: u32) -> u32
         requires { i < self.now.shape.slots }
         ensures value { result ≡ slot_page self.now.shape (half_number half) i }
         ensures inside { result < file_pages self.now.shape }
     {
-        self.gate_page_of(half) + 1 + i
+        self.gate_page(half) + 1 + i
     }
 
     /// How many pages a table area has.
@@ -64,31 +64,6 @@ impl Layout {
     {
         let pages = self.area_pages();
         if area == 0 { 2 + i } else { 2 + pages + i }
-    }
-
-    /// The gate page of a half of the journal, 0 or 1.
-    pub fn gate_page(&self, half: u8) -> u32
-        requires { half < 2 }
-        ensures value { result ≡ gate_page self.now.shape half }
-        ensures inside { result < file_pages self.now.shape }
-        ensures small { result ≤ 10000 }
-    {
-        let pages = self.area_pages();
-        if half == 0 {
-            2 + 2 * pages
-        } else {
-            3 + 2 * pages + self.shape.slots
-        }
-    }
-
-    /// The page of slot `i` of a half of the journal, 0 or 1.
-    pub fn slot_page(&self, half: u8, i: u32) -> u32
-        requires two { half < 2 }
-        requires inside { i < self.now.shape.slots }
-        ensures value { result ≡ slot_page self.now.shape half i }
-        ensures inside { result < file_pages self.now.shape }
-    {
-        self.gate_page(half) + 1 + i
     }
 
     /// The file's page of data page `i`.

@@ -1,7 +1,7 @@
 use Rattle.std.proofs.Common.{◌≡◌, ap, arith}
 use Rattle.grid_types.specs.Shapes.{table_page}
 use Rattle.grid_types.proofs.Places.{table-page, table-page-lies}
-use Rattle.grid_types.proofs.layout.Layout.table_page.Goals as goal
+use Rattle.grid_types.proofs.geometry.Geometry.table_page.Goals as goal
 
 pub returns-then-area-eq0-clause-value : goal.returns-then-area-eq0-clause-value
 returns-then-area-eq0-clause-value c = let t = table-page c.args.self.now.shape c.args.i in omega (arith, t.0, ap (λ n. table_page c.args.self.now.shape n c.args.i) c.if-area-eq0.true)
