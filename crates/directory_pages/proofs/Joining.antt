@@ -24,7 +24,7 @@ body_joined : (count : ℕ) (page : List ℕ) → count ≤ 1000 → AreZeros (9
 unfolding words_of
 body_joined count page few zeros long fits = body_read 4 count page (omega (arith, few)) zeros long fits
 
--- a page with that part_head, and zeros behind so many cells, is that part
+-- a page with that head, and zeros behind so many cells, is that part
 pub joined : (part count : ℕ) (page : List ℕ) → part < 2 ^ 32 → count ≤ 1000 → length page ≡ 4096 → AreBytes page → IsPartHead part count page → AreZeros (96 + 4 * count) 4096 page → IsPart part count page
 joined part count page fit few long fits h zeros =
     let cells = entries_in 4 96 count page in
@@ -41,7 +41,7 @@ joined part count page fit few long fits h zeros =
       };
     }
 
--- that part has that part_head
+-- that part has that head
 pub head_there : (part count : ℕ) (page : List ℕ) → IsPart part count page → IsPartHead part count page
 head_there part count page p = subst (λ (n : ℕ). IsPartHead part n page) p.count_is (part_there part page p.cells p.spelled).front
 

@@ -4,7 +4,7 @@ use Rattle.page_fields.specs.Fields.{number, bytes_of}
 use Rattle.page_fields.specs.Padded.{padded}
 use Rattle.grid_model.specs.Spellings.{directory_spelling}
 
--- the part_head of a directory page: its kind, its part and how many cells it has, filled up with zeros
+-- the head of a directory page: its kind, its part and how many cells it has, filled up with zeros
 unfoldable pub part_head : ℕ → ℕ → List ℕ
 part_head part count = padded 96 (codes "GFD1" ++ (bytes_of 4 part ++ bytes_of 4 count))
 

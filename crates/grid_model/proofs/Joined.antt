@@ -1,4 +1,4 @@
--- The boxes after_note a merge.
+-- The boxes after a merge.
 use Rattle.std.proofs.Common.{◌≡◌, ◌≢◌, ℕ, Bool, cond, not, List, min, max, ◌==◌, Some, None, refl, sym, ap, ◌∙◌, arith, nat_cmp, eq-eqb}
 use Rattle.std.proofs.lemmas.Bool.{ne_eqb}
 use Rattle.std.specs.Cmp.{nat_cmp_total, unsigned_tied}
@@ -11,7 +11,7 @@ use Rattle.grid_model.specs.Notes.{together, joined, after_note, after_note_at}
 use Rattle.grid_model.specs.LayoutLaws.{IsMerge}
 use Rattle.grid_model.proofs.Boxes.{one-value}
 
--- the layout after_note a merge with a box that is there
+-- the layout after a merge with a box that is there
 pub after-merge : {K : ℕ} (L : Layout K) (k : List ℕ) (n : ℕ) (b : BucketBox K) (m : ℕ) (c : BucketBox K) → holder L k ≡ Some (n, b) → box L m ≡ Some c → after_note L k (note.Merge m) ≡ joined L n b m c
 unfolding after_note
 after-merge L k n b m c holds there = ap (λ o. option_map_or (λ e. after_note_at L e (note.Merge m)) o L) holds ∙ ap (λ o. joined L n b m (unwrap_or o b)) there

@@ -87,7 +87,7 @@ module _ {K : ℕ} (numbers : PartsNumbers) (shape : Shape) (L : Layout K) (t : 
     not_empty = λ a i. set_each (λ j x. x ≤ slice_index b.region.hi j) b.region.lo c.attribute c.value a in_low most (region.not_empty a i);
   }
 
-  -- a box that was drawn is drawn on the scales after_note the cut
+  -- a box that was drawn is drawn on the scales after the cut
   still_drawn : (m : ℕ) (d : BucketBox K) → box L m ≡ Some d → IsDrawn (scales_after L.scales c) d
   still_drawn m d at a i = after_cut.drawn a (slice_index d.region.lo a) (slice_index d.region.hi a) i (h.sound.drawn m d at a i)
 
@@ -125,7 +125,7 @@ module _ {K : ℕ} (numbers : PartsNumbers) (shape : Shape) (L : Layout K) (t : 
       let one_more : length (split L n b c (unused L)).boxes ≡ length L.boxes + 1 = length-split L n b c (unused L) there none h.sound.numbered in
       omega (arith, few, one_more, fits)
 
-  -- a layout with a box cut stands over the table after_note the put
+  -- a layout with a box cut stands over the table after the put
   split-stands : Fits shape (split L n b c (unused L)) → StandsOver shape (split L n b c (unused L)) (effect t (Put r))
   unfolding split effect
   split-stands fits = record {
@@ -150,7 +150,7 @@ module _ {K : ℕ} (numbers : PartsNumbers) (shape : Shape) (L : Layout K) (t : 
     };
   }
 
--- a layout after_note a note is the one that the box of the key gives
+-- a layout after a note is the one that the box of the key gives
 after-held : {K : ℕ} (L : Layout K) (k : List ℕ) (n : LayoutChange) (e : ℕ × BucketBox K) → holder L k ≡ Some e → after_note L k n ≡ after_note_at L e n
 unfolding after_note
 after-held L k n e held = ap (λ o. option_map_or (λ x. after_note_at L x n) o L) held

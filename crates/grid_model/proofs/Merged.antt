@@ -29,7 +29,7 @@ module _ {K : ℕ} (shape : Shape) (L : Layout K) (t : Table) (k : List ℕ) (st
   abbrev merged : Layout K
   merged = joined L n b m c
 
-  -- where a box after_note the merge comes from: it is the one that two made, or was there
+  -- where a box after the merge comes from: it is the one that two made, or was there
   data Origin (i : ℕ) (d : BucketBox K) : Type 0 where
     Made : i ≡ min n m → d ≡ together b c → Origin i d
     Old : i ≢ n → i ≢ m → box L i ≡ Some d → Origin i d

@@ -34,7 +34,7 @@ entry_at h n = if nat_lt h.from n then slice_get h.entries (n - h.from - 1) else
 abbrev pub entry_effect : {K : ℕ} → Table → Entry K → Table
 entry_effect t e = effect t e.update
 
--- the table at a place: the base table after_note the updates up to there
+-- the table at a place: the base table after the updates up to there
 unfoldable pub state_at : {K : ℕ} → History K → ℕ → Table
 state_at h n = fold entry_effect h.base (until h n)
 
@@ -47,7 +47,7 @@ pub record Layouts (K : ℕ) : Type 0 where
 abbrev pub layout_effect : {K : ℕ} → Layout K → Entry K × LayoutChange → Layout K
 layout_effect L e = after_note L (updated_key e.0.update) e.1
 
--- the layout at a place: the first one after_note the notes up to there
+-- the layout at a place: the first one after the notes up to there
 unfoldable pub layout_at : {K : ℕ} → History K → Layouts K → ℕ → Layout K
 layout_at h ls n = fold layout_effect ls.first (zip (until h n) ls.notes)
 

@@ -193,11 +193,11 @@ pub record RootSpells {K : ℕ} (image : List ℕ) (f : Found K) (L : Layout K) 
   pub sound : IsSound f.shape L f.table
   pub records : f.root.records ≡ length f.table
 
--- the layout after_note some updates with their notes
+-- the layout after some updates with their notes
 unfoldable pub layout_after : {K : ℕ} → Layout K → List (LoggedUpdate K) → Layout K
 layout_after L us = fold (λ M u. after_note M (updated_key u.update) u.note) L us
 
--- the state after_note an update that finds its box
+-- the state after an update that finds its box
 abbrev pub redo : {K : ℕ} → State K → LoggedUpdate K → State K
 redo s u = option_map_or (λ e. published e u.update u.note s) (holder s.layout (updated_key u.update)) s
 
@@ -206,7 +206,7 @@ pub record MayRedo {K : ℕ} (shape : Shape) (s : State K) (u : LoggedUpdate K) 
   pub lawful : IsLawfulNote shape s.layout s.table u.update u.note
   pub pages : (e : ℕ × BucketBox K) → holder s.layout (updated_key u.update) ≡ Some e → how_many (renewed s.layout e u.note) ≤ free shape s
 
--- each update may be taken, one after_note the other
+-- each update may be taken, one after the other
 abbrev pub MayRedoAll : {K : ℕ} → Shape → State K → List (LoggedUpdate K) → Type 0
 MayRedoAll shape s [] = ⊤
 MayRedoAll shape s (u ∷ us) = MayRedo shape s u × MayRedoAll shape (redo s u) us

@@ -32,7 +32,7 @@ pub record StandsOver {K : ℕ} (shape : Shape) (L : Layout K) (t : Table) : Typ
 abbrev pub Fits : {K : ℕ} → Shape → Layout K → Type 0
 Fits shape L = length L.boxes + parts L.scales ≤ shape.pages
 
--- a new file's layout is sound for the empty table, and a lawful note keeps a layout sound for the table after_note the update, where the boxes and parts that it leaves fit
+-- a new file's layout is sound for the empty table, and a lawful note keeps a layout sound for the table after the update, where the boxes and parts that it leaves fit
 pub record KeepsSound (K : ℕ) : Type 0 where
   pub new : (shape : Shape) → IsTrue (is_shape shape) → shape.k ≡ K → StandsOver shape (new_layout K) []
   pub after : (shape : Shape) (L : Layout K) (t : Table) (u : Update K) (n : LayoutChange) → StandsOver shape L t → IsKey K (updated_key u) → IsLawfulNote shape L t u n

@@ -64,7 +64,7 @@ left_of {K} b c = record { region = record { lo = b.region.lo; hi = slice_set b.
 abbrev pub right_of : {K : ℕ} → BucketBox K → Cut → BucketBox K
 right_of {K} b c = record { region = record { lo = slice_set b.region.lo c.attribute c.value; hi = b.region.hi }; turn = next_turn K c }
 
--- the scales after_note a cut: a fresh boundary is added to its scale
+-- the scales after a cut: a fresh boundary is added to its scale
 abbrev pub scales_after : List (List ℕ) → Cut → List (List ℕ)
 scales_after scales c = if c.fresh then slice_set scales c.attribute (refined (scale_of scales c.attribute) c.value) else scales
 
@@ -80,12 +80,12 @@ together b c = record { region = hull b.region c.region; turn = b.turn }
 unfoldable pub joined : {K : ℕ} → Layout K → ℕ → BucketBox K → ℕ → BucketBox K → Layout K
 joined L n b m c = record { scales = L.scales; boxes = put nat_cmp (min n m) (together b c) (where_key nat_cmp (λ x. not (x == max n m)) L.boxes) }
 
--- the layout after_note an update with this note, where this box has the key
+-- the layout after an update with this note, where this box has the key
 abbrev pub after_note_at : {K : ℕ} → Layout K → ℕ × BucketBox K → LayoutChange → Layout K
 after_note_at L e note.Plain = L
 after_note_at L e (note.Cut c right) = split L e.0 e.1 c right
 after_note_at L e (note.Merge m) = joined L e.0 e.1 m (unwrap_or (box L m) e.1)
 
--- the layout after_note an update of a key with this note
+-- the layout after an update of a key with this note
 unfoldable pub after_note : {K : ℕ} → Layout K → List ℕ → LayoutChange → Layout K
 after_note L k n = option_map_or (λ e. after_note_at L e n) (holder L k) L

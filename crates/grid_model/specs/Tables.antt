@@ -7,7 +7,7 @@ use Rattle.grid_types.specs.declared.update.Update.{Update}
 use Rattle.grid_types.specs.declared.update.Update.TheVariants.{Put, Remove}
 use Rattle.grid_types.specs.Keys.{key_cmp}
 
--- an pair_of is a key, as the list of its numbers, with its data
+-- a pair is a key, as the list of its numbers, with its data
 abbrev pub Table : Type 0
 Table = List (List ℕ × List ℕ)
 
@@ -32,7 +32,7 @@ unfoldable pub effect : {K : ℕ} → Table → Update K → Table
 effect t (Put r) = with_data t r.key.numbers r.value
 effect t (Remove k) = without t k.numbers
 
--- a record is an pair_of: its key with its data
+-- a record is a pair: its key with its data
 abbrev pub pair_of : {K : ℕ} → Record K → List ℕ × List ℕ
 pair_of r = (r.key.numbers, r.value)
 

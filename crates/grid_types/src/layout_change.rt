@@ -1,4 +1,4 @@
-//! What an update does to the geometry of the file.
+//! What an update does to the layout of the file.
 
 use crate::Update;
 
@@ -11,7 +11,7 @@ pub struct Cut {
     pub fresh: bool,
 }
 
-/// What an update does to the geometry.
+/// What an update does to the layout.
 #[derive(Clone, Copy, Debug, Default, PartialEq, Eq)]
 pub enum LayoutChange {
     /// Nothing.
@@ -23,7 +23,7 @@ pub enum LayoutChange {
     Merge { with: u32 },
 }
 
-/// An update, with what it does to the geometry.
+/// An update, with what it does to the layout.
 #[derive(Debug, Default, Drop, PartialEq, Eq)]
 pub struct LoggedUpdate<const K: usize> {
     pub update: Update<K>,
