@@ -15,6 +15,7 @@ mod region;
 mod request;
 mod rows;
 mod shape;
+mod sizes;
 mod update;
 mod words;
 
@@ -31,5 +32,10 @@ pub use region::Region;
 pub use request::{Line, Reply, Request};
 pub use rows::Rows;
 pub use shape::{Shape, Stat};
+pub use sizes::{
+    BODY_BYTES, DATA_ROOM, FEWEST_PAGES, HEAD_BYTES, KEY_BYTES, LEAST_RECORDS, LONGEST_DATA,
+    MOST_ATTRIBUTES, MOST_BOUNDARIES, MOST_CELLS, MOST_PAGES, MOST_RECORDS, MOST_SLOTS,
+    MOST_UPDATES, NUMBERS_ON_PAGE, PAGE_BYTES, RECORD_BYTES, UPDATE_BYTES, WORDS_ON_PAGE,
+};
 pub use update::{Entry, Record, Update};
 pub use words::Words;

@@ -2,6 +2,11 @@
 ghost use Rattle.std.specs.Prelude.{◌≡◌, ◌↔◌, IsTrue};
 ghost use Rattle.grid_types.specs.Shapes.{has_lawful_buckets, has_lawful_pages, has_lawful_bounds, is_shape, file_pages};
 
+use crate::{
+    FEWEST_PAGES, LEAST_RECORDS, MOST_ATTRIBUTES, MOST_BOUNDARIES, MOST_CELLS, MOST_PAGES,
+    MOST_RECORDS, MOST_SLOTS,
+};
+
 /// What a file is made with. It never changes.
 #[derive(Clone, Copy, Debug, PartialEq, Eq)]
 pub struct Shape {
@@ -34,23 +39,29 @@ fn has_lawful_bounds(shape: &Shape) -> bool
     ensures { result ≡ has_lawful_bounds shape.now }
 {
     1 <= shape.boundaries
-        && shape.boundaries <= 1000
+        && shape.boundaries <= MOST_BOUNDARIES as u32
         && 1 <= shape.cells
-        && shape.cells <= 1_000_000
+        && shape.cells <= MOST_CELLS as u32
 }
 
 /// Whether the pages and the slots of a shape are within their limits.
 fn has_lawful_pages(shape: &Shape) -> bool
     ensures { result ≡ has_lawful_pages shape.now }
 {
-    8 <= shape.pages && shape.pages <= 65_536 && 1 <= shape.slots && shape.slots <= 4000
+    FEWEST_PAGES as u32 <= shape.pages
+        && shape.pages <= MOST_PAGES as u32
+        && 1 <= shape.slots
+        && shape.slots <= MOST_SLOTS as u32
 }
 
 /// Whether the attributes and the capacity of a shape are within their limits.
 fn has_lawful_buckets(shape: &Shape) -> bool
     ensures { result ≡ has_lawful_buckets shape.now }
 {
-    1 <= shape.k && shape.k <= 4 && 2 <= shape.capacity && shape.capacity <= 48
+    1 <= shape.k
+        && shape.k <= MOST_ATTRIBUTES as u8
+        && LEAST_RECORDS as u16 <= shape.capacity
+        && shape.capacity <= MOST_RECORDS as u16
 }
 
 impl Shape {

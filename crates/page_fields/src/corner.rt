@@ -1,12 +1,14 @@
 //! Corners in the bytes of a page.
 ghost use Rattle.std.specs.Prelude.{◌≤◌, ◌+◌};
 ghost use Rattle.page_fields.specs.Corners.{CornerAt};
+ghost use Rattle.grid_types.specs.declared.sizes.TheConstants.{PAGE_BYTES};
 
+use grid_types::PAGE_BYTES;
 use crate::get_u64;
 
 /// The corner whose numbers stand from an offset on.
-pub fn get_corner<const K: usize>(page: &[u8; 4096], at: usize) -> [u64; K]
-    requires room { at + 32 ≤ 4096 }
+pub fn get_corner<const K: usize>(page: &[u8; PAGE_BYTES], at: usize) -> [u64; K]
+    requires room { at + 32 ≤ PAGE_BYTES }
     requires few { K ≤ 4 }
     ensures { CornerAt K page.now at result }
 {

@@ -1,12 +1,15 @@
 //! Whether bytes of a page are 0.
 ghost use Rattle.std.specs.Prelude.{◌≤◌, ◌<◌, ◌↔◌, IsTrue};
 ghost use Rattle.page_fields.specs.Fields.{AreZeros};
+ghost use Rattle.grid_types.specs.declared.sizes.TheConstants.{PAGE_BYTES};
 
-const ZEROS: [u8; 4096] = [0; 4096];
+use grid_types::PAGE_BYTES;
+
+const ZEROS: [u8; PAGE_BYTES] = [0; PAGE_BYTES];
 
 /// Whether the bytes from one offset up to another are 0. They are compared in groups, not one by one.
-pub fn zeros(page: &[u8; 4096], from: usize, to: usize) -> bool
-    requires { to ≤ 4096 }
+pub fn zeros(page: &[u8; PAGE_BYTES], from: usize, to: usize) -> bool
+    requires { to ≤ PAGE_BYTES }
     ensures { IsTrue result ↔ AreZeros from to page.now }
 {
     if to <= from {

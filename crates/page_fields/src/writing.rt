@@ -3,12 +3,14 @@
 ghost use Rattle.std.specs.Prelude.{◌≡◌, ◌≤◌, ◌+◌, ◌-◌, ◌*◌, ◌++◌, length, replicate, take};
 ghost use Rattle.page_fields.specs.Fields.{replaced};
 ghost use Rattle.page_fields.specs.Padded.{numbers, padded, words_of};
+ghost use Rattle.grid_types.specs.declared.sizes.TheConstants.{PAGE_BYTES};
 
+use grid_types::PAGE_BYTES;
 use crate::{set_u32, set_u64};
 
 /// Writes these bytes at an offset.
-pub fn put_bytes(page: &mut [u8; 4096], at: usize, bytes: &[u8])
-    requires { at + length bytes.now ≤ 4096 }
+pub fn put_bytes(page: &mut [u8; PAGE_BYTES], at: usize, bytes: &[u8])
+    requires { at + length bytes.now ≤ PAGE_BYTES }
     ensures written { page.new ≡ replaced at bytes.now page.old }
     ensures front { take (at + length bytes.now) page.new ≡ take at page.old ++ bytes.now }
 {
@@ -16,9 +18,9 @@ pub fn put_bytes(page: &mut [u8; 4096], at: usize, bytes: &[u8])
 }
 
 /// Makes the bytes from one offset up to another 0.
-pub fn put_zeros(page: &mut [u8; 4096], from: usize, to: usize)
+pub fn put_zeros(page: &mut [u8; PAGE_BYTES], from: usize, to: usize)
     requires ordered { from ≤ to }
-    requires inside { to ≤ 4096 }
+    requires inside { to ≤ PAGE_BYTES }
     ensures written { page.new ≡ replaced from (replicate (to - from) 0) page.old }
     ensures front { take to page.new ≡ take from page.old ++ replicate (to - from) 0 }
 {
@@ -26,8 +28,8 @@ pub fn put_zeros(page: &mut [u8; 4096], from: usize, to: usize)
 }
 
 /// Writes a corner into 32 bytes: its numbers, and zeros behind them.
-pub fn put_corner<const K: usize>(page: &mut [u8; 4096], at: usize, corner: &[u64; K])
-    requires room { at + 32 ≤ 4096 }
+pub fn put_corner<const K: usize>(page: &mut [u8; PAGE_BYTES], at: usize, corner: &[u64; K])
+    requires room { at + 32 ≤ PAGE_BYTES }
     requires few { K ≤ 4 }
     ensures written { page.new ≡ replaced at (padded 32 (numbers corner.now)) page.old }
     ensures front { take (at + 32) page.new ≡ take at page.old ++ padded 32 (numbers corner.now) }
@@ -39,8 +41,8 @@ pub fn put_corner<const K: usize>(page: &mut [u8; 4096], at: usize, corner: &[u6
 }
 
 /// Writes numbers of four bytes, one behind the other.
-pub fn put_words(page: &mut [u8; 4096], at: usize, words: &[u32])
-    requires { at + 4 * length words.now ≤ 4096 }
+pub fn put_words(page: &mut [u8; PAGE_BYTES], at: usize, words: &[u32])
+    requires { at + 4 * length words.now ≤ PAGE_BYTES }
     ensures written { page.new ≡ replaced at (words_of words.now) page.old }
     ensures front { take (at + 4 * length words.now) page.new ≡ take at page.old ++ words_of words.now }
 {
@@ -50,8 +52,8 @@ pub fn put_words(page: &mut [u8; 4096], at: usize, words: &[u32])
 }
 
 /// Writes numbers of eight bytes, one behind the other.
-pub fn put_numbers(page: &mut [u8; 4096], at: usize, words: &[u64])
-    requires { at + 8 * length words.now ≤ 4096 }
+pub fn put_numbers(page: &mut [u8; PAGE_BYTES], at: usize, words: &[u64])
+    requires { at + 8 * length words.now ≤ PAGE_BYTES }
     ensures written { page.new ≡ replaced at (numbers words.now) page.old }
     ensures front { take (at + 8 * length words.now) page.new ≡ take at page.old ++ numbers words.now }
 {
