@@ -1,4 +1,4 @@
--- The patch of a box, one place after the other.
+-- The patch of a box, one index after the other.
 use Rattle.std.proofs.Common.{◌≡◌, ◌<◌, ◌≤◌, ◌+◌, ◌*◌, ◌^◌, ◌/◌, ◌%◌, ◌≢◌, inl, inr, ℕ, List, length, get_or, slice_index, set, refl, sym, subst, ◌∙◌, arith}
 use Rattle.std.proofs.lemmas.Bool.{cases_lt}
 use Rattle.std.proofs.lemmas.Bool.Decides.{eqb_tells}
@@ -6,12 +6,12 @@ use Rattle.std.proofs.lemmas.List.{length-set, get_or-set_same, get_or-set_other
 use Rattle.page_fields.specs.Fields.{bytes_of, replaced}
 use Rattle.page_fields.proofs.BytesOf.{length-bytes_of}
 use Rattle.grid_model.specs.Lists.{product}
-use Rattle.grid_model.specs.Cells.{place}
+use Rattle.grid_model.specs.Cells.{cell_index}
 use Rattle.grid_model.specs.ScaleLaws.{IsCell}
 use Rattle.grid_cells.specs.Boxes.{InBox}
-use Rattle.grid_cells.proofs.Products.{place-below}
+use Rattle.grid_cells.proofs.Products.{cell_index-below}
 use Rattle.directory_pages.specs.Spelling.{SpellsPart, bucket_in}
-use Rattle.directory_pages.specs.Boxes.{cells_on, HoldsCell, HasPlace, IsPatched, IsBeside, IsOutsideBox}
+use Rattle.directory_pages.specs.Boxes.{cells_on, HoldsCell, HasIndex, IsPatched, IsBeside, IsOutsideBox}
 use Rattle.directory_pages.proofs.Patches.{written_there, byte_kept, bucket_kept}
 
 -- what holds of each number below n and of n
@@ -23,43 +23,43 @@ below_more P n i front last lt = elim (cases_lt i n) [
       subst P same last
 ]
 
--- the cell in a place lies in the box
-pub has_place : (ns lo hi cell : List ℕ) (at : ℕ) → IsCell ns cell → place ns cell ≡ at → InBox lo hi cell → HasPlace ns lo hi at
-has_place ns lo hi cell at h e b = record { cell = cell; is_cell = h; inside = b; place_is = e }
+-- the cell at an index lies in the box
+pub has_index : (ns lo hi cell : List ℕ) (at : ℕ) → IsCell ns cell → cell_index ns cell ≡ at → InBox lo hi cell → HasIndex ns lo hi at
+has_index ns lo hi cell at h e b = record { cell = cell; is_cell = h; inside = b; index_is = e }
 
--- the cell in a place does not
-pub no_place : (ns lo hi cell : List ℕ) (at : ℕ) → ((other : List ℕ) → IsCell ns other → place ns other ≡ at → other ≡ cell) → (InBox lo hi cell → ⊥) → HasPlace ns lo hi at → ⊥
-no_place ns lo hi cell at only out h = out (subst (InBox lo hi) (only h.cell h.is_cell h.place_is) h.inside)
+-- the cell at an index does not
+pub no_index : (ns lo hi cell : List ℕ) (at : ℕ) → ((other : List ℕ) → IsCell ns other → cell_index ns other ≡ at → other ≡ cell) → (InBox lo hi cell → ⊥) → HasIndex ns lo hi at → ⊥
+no_index ns lo hi cell at only out h = out (subst (InBox lo hi) (only h.cell h.is_cell h.index_is) h.inside)
 
--- a cell of the box on a part has one of its places
-pub index_on : (ns cell : List ℕ) (part : ℕ) → IsCell ns cell → place ns cell / 1000 ≡ part → place ns cell % 1000 < cells_on ns part
-index_on ns cell part h e = omega (arith, place-below ns cell h, e)
+-- a cell of the box on a part has one of its indices
+pub index_on : (ns cell : List ℕ) (part : ℕ) → IsCell ns cell → cell_index ns cell / 1000 ≡ part → cell_index ns cell % 1000 < cells_on ns part
+index_on ns cell part h e = omega (arith, cell_index-below ns cell h, e)
 
-pub place_on_part : (ns lo hi cell : List ℕ) (part : ℕ) → IsCell ns cell → InBox lo hi cell → place ns cell / 1000 ≡ part → HasPlace ns lo hi (1000 * part + place ns cell % 1000)
-place_on_part ns lo hi cell part h b e = has_place ns lo hi cell (1000 * part + place ns cell % 1000) h (omega (arith, e)) b
+pub index_on_part : (ns lo hi cell : List ℕ) (part : ℕ) → IsCell ns cell → InBox lo hi cell → cell_index ns cell / 1000 ≡ part → HasIndex ns lo hi (1000 * part + cell_index ns cell % 1000)
+index_on_part ns lo hi cell part h b e = has_index ns lo hi cell (1000 * part + cell_index ns cell % 1000) h (omega (arith, e)) b
 
 -- the part of a cell begins below the number of cells
 pub part_there : (ns lo hi : List ℕ) (part : ℕ) → HoldsCell ns lo hi part → 1000 * part < product ns
-part_there ns lo hi part h = omega (arith, place-below ns h.cell h.is_cell, h.on_part)
+part_there ns lo hi part h = omega (arith, cell_index-below ns h.cell h.is_cell, h.on_part)
 
--- the cells after the patch of the first n places of a part
+-- the cells after the patch of the first n cells of a part
 pub record PatchedBelow (ns lo hi : List ℕ) (part bucket n : ℕ) (cells after : List ℕ) : Type 0 where
   pub count : length after ≡ length cells
-  pub inside : (i : ℕ) → i < n → HasPlace ns lo hi (1000 * part + i) → slice_index after i ≡ bucket
-  pub outside : (i : ℕ) → i < length cells → (i < n → HasPlace ns lo hi (1000 * part + i) → ⊥) → slice_index after i ≡ slice_index cells i
+  pub inside : (i : ℕ) → i < n → HasIndex ns lo hi (1000 * part + i) → slice_index after i ≡ bucket
+  pub outside : (i : ℕ) → i < length cells → (i < n → HasIndex ns lo hi (1000 * part + i) → ⊥) → slice_index after i ≡ slice_index cells i
 
--- the patch of no place changes nothing
+-- the patch of no cell changes nothing
 patched_none : (ns lo hi : List ℕ) (part x : ℕ) (cells after : List ℕ) → PatchedBelow ns lo hi part x 0 cells after → cells ≡ after
 patched_none ns lo hi part x cells after p =
     same_lists cells after (sym p.count) (λ k d lt.
     get_or_default cells k d 0 lt ∙ sym (p.outside k lt (λ no h. absurd (omega (arith, no)))) ∙ get_or_default after k 0 d (omega (arith, lt, p.count)))
 
--- where the place of cell n has no cell of the box, its patch changes nothing
-patched_same : (ns lo hi : List ℕ) (part x n : ℕ) (cells after : List ℕ) → (HasPlace ns lo hi (1000 * part + n) → ⊥) → PatchedBelow ns lo hi part x (n + 1) cells after → PatchedBelow ns lo hi part x n cells after
+-- where the index of cell n has no cell of the box, its patch changes nothing
+patched_same : (ns lo hi : List ℕ) (part x n : ℕ) (cells after : List ℕ) → (HasIndex ns lo hi (1000 * part + n) → ⊥) → PatchedBelow ns lo hi part x (n + 1) cells after → PatchedBelow ns lo hi part x n cells after
 patched_same ns lo hi part x n cells after out p = record {
   count = p.count;
   inside = λ i lt. p.inside i (omega (arith, lt));
-  outside = λ i lt no. p.outside i lt (below_more (λ j. HasPlace ns lo hi (1000 * part + j) → ⊥) n i no out);
+  outside = λ i lt no. p.outside i lt (below_more (λ j. HasIndex ns lo hi (1000 * part + j) → ⊥) n i no out);
 }
 
 -- before the patch of cell n, it was as it had been
@@ -92,11 +92,11 @@ set_back after n v x lt e =
           get_or-set_other (set after n v) n k x d other ∙ get_or-set_other after n k v d other
     ])
 
--- a part's page after the patch of its first n places
+-- a part's page after the patch of its first n cells
 pub record PagePatched (ns lo hi : List ℕ) (part bucket n : ℕ) (old new : List ℕ) : Type 0 where
   pub long : length new ≡ 4096
-  pub named : (i : ℕ) → i < n → HasPlace ns lo hi (1000 * part + i) → bucket_in i new ≡ bucket
-  pub others : (k : ℕ) → ((i : ℕ) → i < n → HasPlace ns lo hi (1000 * part + i) → IsBeside i k) → slice_index new k ≡ slice_index old k
+  pub named : (i : ℕ) → i < n → HasIndex ns lo hi (1000 * part + i) → bucket_in i new ≡ bucket
+  pub others : (k : ℕ) → ((i : ℕ) → i < n → HasIndex ns lo hi (1000 * part + i) → IsBeside i k) → slice_index new k ≡ slice_index old k
   pub cells : (cells after : List ℕ) → SpellsPart part old cells → length cells ≡ cells_on ns part → PatchedBelow ns lo hi part bucket n cells after → SpellsPart part new after
 
 pub page_unpatched : (ns lo hi : List ℕ) (part x : ℕ) (page : List ℕ) → length page ≡ 4096 → PagePatched ns lo hi part x 0 page page
@@ -107,23 +107,23 @@ page_unpatched ns lo hi part x page long = record {
   cells = λ cells after s e p. subst (SpellsPart part page) (patched_none ns lo hi part x cells after p) s;
 }
 
--- a place with no cell of the box
-pub place_passed : (ns lo hi : List ℕ) (part x n : ℕ) (old new : List ℕ) → (HasPlace ns lo hi (1000 * part + n) → ⊥) → PagePatched ns lo hi part x n old new → PagePatched ns lo hi part x (n + 1) old new
-place_passed ns lo hi part x n old new out p = record {
+-- an index with no cell of the box
+pub index_passed : (ns lo hi : List ℕ) (part x n : ℕ) (old new : List ℕ) → (HasIndex ns lo hi (1000 * part + n) → ⊥) → PagePatched ns lo hi part x n old new → PagePatched ns lo hi part x (n + 1) old new
+index_passed ns lo hi part x n old new out p = record {
   long = p.long;
-  named = λ i. below_more (λ j. HasPlace ns lo hi (1000 * part + j) → bucket_in j new ≡ x) n i (p.named i) (λ h. absurd (out h));
+  named = λ i. below_more (λ j. HasIndex ns lo hi (1000 * part + j) → bucket_in j new ≡ x) n i (p.named i) (λ h. absurd (out h));
   others = λ k beside. p.others k (λ i lt. beside i (omega (arith, lt)));
   cells = λ cells after s e q. p.cells cells after s e (patched_same ns lo hi part x n cells after out q);
 }
 
--- a place with a cell of the box
-pub place_patched : (ns lo hi : List ℕ) (part x n : ℕ) (first old new : List ℕ) → HasPlace ns lo hi (1000 * part + n) → n < cells_on ns part → x < 2 ^ 32 → new ≡ replaced (96 + 4 * n) (bytes_of 4 x) old → length new ≡ 4096
+-- an index with a cell of the box
+pub index_patched : (ns lo hi : List ℕ) (part x n : ℕ) (first old new : List ℕ) → HasIndex ns lo hi (1000 * part + n) → n < cells_on ns part → x < 2 ^ 32 → new ≡ replaced (96 + 4 * n) (bytes_of 4 x) old → length new ≡ 4096
     → ((cells : List ℕ) → SpellsPart part old cells → n < length cells → SpellsPart part new (set cells n x)) → PagePatched ns lo hi part x n first old → PagePatched ns lo hi part x (n + 1) first new
-place_patched ns lo hi part x n first old new here lt fit e long spelled p =
+index_patched ns lo hi part x n first old new here lt fit e long spelled p =
     let room : 96 + 4 * n + 4 ≤ length old = omega (arith, lt, p.long) in
     record {
       long = long;
-      named = λ i. below_more (λ j. HasPlace ns lo hi (1000 * part + j) → bucket_in j new ≡ x) n i
+      named = λ i. below_more (λ j. HasIndex ns lo hi (1000 * part + j) → bucket_in j new ≡ x) n i
           (λ low h.
           let other : i ≢ n = omega (arith, low) in
           bucket_kept i n x old new e room other ∙ p.named i low h)
@@ -138,17 +138,17 @@ place_patched ns lo hi part x n first old new here lt fit e long spelled p =
           subst (SpellsPart part new) (set_back after n v x (omega (arith, there, q.count)) (q.inside n (omega arith) here)) is;
     }
 
--- what each place of the part has given
+-- what each cell of the part has given
 pub all_named : (ns lo hi : List ℕ) (part x n : ℕ) (old new : List ℕ) → cells_on ns part ≤ n → PagePatched ns lo hi part x n old new
-    → (cell : List ℕ) → IsCell ns cell → InBox lo hi cell → place ns cell / 1000 ≡ part → bucket_in (place ns cell % 1000) new ≡ x
-all_named ns lo hi part x n old new le p cell h b e = p.named (place ns cell % 1000) (omega (arith, le, index_on ns cell part h e)) (place_on_part ns lo hi cell part h b e)
+    → (cell : List ℕ) → IsCell ns cell → InBox lo hi cell → cell_index ns cell / 1000 ≡ part → bucket_in (cell_index ns cell % 1000) new ≡ x
+all_named ns lo hi part x n old new le p cell h b e = p.named (cell_index ns cell % 1000) (omega (arith, le, index_on ns cell part h e)) (index_on_part ns lo hi cell part h b e)
 
 pub all_others : (ns lo hi : List ℕ) (part x n : ℕ) (old new : List ℕ) → n ≤ cells_on ns part → PagePatched ns lo hi part x n old new
     → (k : ℕ) → IsOutsideBox ns lo hi part k → slice_index new k ≡ slice_index old k
 all_others ns lo hi part x n old new le p k out =
     p.others k (λ i lt h.
-    let index : place ns h.cell % 1000 ≡ i = omega (arith, h.place_is, lt, le) in
-    subst (λ (j : ℕ). IsBeside j k) index (out h.cell h.is_cell h.inside (omega (arith, h.place_is, lt, le))))
+    let index : cell_index ns h.cell % 1000 ≡ i = omega (arith, h.index_is, lt, le) in
+    subst (λ (j : ℕ). IsBeside j k) index (out h.cell h.is_cell h.inside (omega (arith, h.index_is, lt, le))))
 
 pub all_cells : (ns lo hi : List ℕ) (part x n : ℕ) (old new : List ℕ) → n ≡ cells_on ns part → PagePatched ns lo hi part x n old new
     → (cells after : List ℕ) → SpellsPart part old cells → length cells ≡ cells_on ns part → IsPatched ns lo hi part x cells after → SpellsPart part new after

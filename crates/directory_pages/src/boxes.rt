@@ -1,7 +1,7 @@
 //! The cells of a box that lie on a part, and the parts that hold a cell of it.
 ghost use Rattle.std.specs.Prelude.{◌≡◌, ◌<◌, ◌*◌, ◌/◌, ◌%◌, ◌↔◌, ℕ, List, length, slice_index, IsTrue, IfSome, MatchOption};
 ghost use Rattle.grid_model.specs.Lists.{product};
-ghost use Rattle.grid_model.specs.Cells.{place};
+ghost use Rattle.grid_model.specs.Cells.{cell_index};
 ghost use Rattle.grid_model.specs.ScaleLaws.{IsCell};
 ghost use Rattle.grid_cells.specs.Dims.{IsDims};
 ghost use Rattle.grid_cells.specs.Boxes.{InBox};
@@ -77,7 +77,7 @@ pub fn patch_box<const K: usize>(
 )
     requires dims { IsDims dims.now.n }
     requires some { 1000 * part < product dims.now.n }
-    ensures named { (cell : List ℕ) → IsCell dims.now.n cell → InBox lo.now hi.now cell → place dims.now.n cell / 1000 ≡ part → bucket_in (place dims.now.n cell % 1000) page.new ≡ bucket }
+    ensures named { (cell : List ℕ) → IsCell dims.now.n cell → InBox lo.now hi.now cell → cell_index dims.now.n cell / 1000 ≡ part → bucket_in (cell_index dims.now.n cell % 1000) page.new ≡ bucket }
     ensures others { (k : ℕ) → IsOutsideBox dims.now.n lo.now hi.now part k → slice_index page.new k ≡ slice_index page.old k }
     ensures cells { (cells after : List ℕ) → SpellsPart part page.old cells → length cells ≡ cells_on dims.now.n part → IsPatched dims.now.n lo.now hi.now part bucket cells after → SpellsPart part page.new after }
 {

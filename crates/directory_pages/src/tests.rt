@@ -108,7 +108,7 @@ fn no_byte_is_passed_over(rt: HostRuntime) -> Result<(), Fail> {
 }
 
 #[test]
-fn places_have_parts(rt: HostRuntime) -> Result<(), Fail> {
+fn indices_have_parts(rt: HostRuntime) -> Result<(), Fail> {
     spelling_law();
     assert_eq!(rt; part_of(999), (0, 999));
     assert_eq!(rt; part_of(1000), (1, 0));

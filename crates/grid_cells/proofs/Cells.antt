@@ -1,4 +1,4 @@
--- The cell in a place, attribute by attribute.
+-- The cell at an index, attribute by attribute.
 use Rattle.std.proofs.Common.{◌⊎◌, inl, inr, ◌≢◌, ◌≡◌, ◌<◌, ◌≤◌, ◌+◌, ◌*◌, ◌/◌, ◌%◌, ℕ, List, [], ◌∷◌, ◌++◌, length, slice_index, slice_set, take, drop, map, slice_get, refl, sym, ap, ◌∙◌, subst, arith, append_assoc}
 use Rattle.std.proofs.Math.Nat.{div-lt_iff_lt-mul}
 use Rattle.std.proofs.lemmas.Bool.{cases_lt}
@@ -6,14 +6,14 @@ use Rattle.std.proofs.lemmas.Nat.{div-add-mod', mod_below}
 use Rattle.std.proofs.lemmas.Option.{same_Some}
 use Rattle.std.proofs.lemmas.List.{drop_more, drop_all, take_all, append-nil, length-set, take_more_set, get_or-set_same, get_or-set_other}
 use Rattle.grid_model.specs.Lists.{product, choices, below}
-use Rattle.grid_model.specs.Cells.{place}
+use Rattle.grid_model.specs.Cells.{cell_index}
 use Rattle.grid_model.specs.ScaleLaws.{IsCell}
-use Rattle.grid_model.proofs.Places.{place-on, cell-on, cell-there}
+use Rattle.grid_model.proofs.Indices.{cell_index-cons, cell-on, cell-there}
 use Rattle.grid_cells.proofs.Products.{Positive, rest-positive, product-rest, size-step}
 
--- what is left of a place is that of the other attributes: any cell of them there makes the whole cell
+-- what is left of an index is that of the other attributes: any cell of them there makes the whole cell
 abbrev pub Completes : List ℕ → List ℕ → ℕ → ℕ → ℕ → Type 0
-Completes ns cell a rest at = (d : List ℕ) → IsCell (drop a ns) d → place (drop a ns) d ≡ rest → place ns (take a cell ++ d) ≡ at
+Completes ns cell a rest at = (d : List ℕ) → IsCell (drop a ns) d → cell_index (drop a ns) d ≡ rest → cell_index ns (take a cell ++ d) ≡ at
 
 -- the interval of an attribute is one of its intervals
 pub interval-below : (ns : List ℕ) (a rest size : ℕ) → a < length ns → 0 < size → size ≡ product (drop (a + 1) ns) → rest < product (drop a ns) → rest / size < slice_index ns a
@@ -26,14 +26,14 @@ completes-more ns cell a rest size at p q s e r h d c f =
     let digit = rest / size in
     let n = slice_index ns a in
     let first = drop_more ns a 0 p in
-    let there : place (n ∷ drop (a + 1) ns) (digit ∷ d) ≡ rest = place-on n digit (drop (a + 1) ns) d c.count ∙ (λ i. digit * (sym e i) + f i) ∙ div-add-mod' rest size in
-    let whole : place ns (take a cell ++ digit ∷ d) ≡ at = h (digit ∷ d)
+    let there : cell_index (n ∷ drop (a + 1) ns) (digit ∷ d) ≡ rest = cell_index-cons n digit (drop (a + 1) ns) d c.count ∙ (λ i. digit * (sym e i) + f i) ∙ div-add-mod' rest size in
+    let whole : cell_index ns (take a cell ++ digit ∷ d) ≡ at = h (digit ∷ d)
     (subst (λ (ms : List ℕ). IsCell ms (digit ∷ d)) (sym first) (cell-on n digit (drop (a + 1) ns) d (interval-below ns a rest size p s e r) c))
-    (ap (λ ms. place ms (digit ∷ d)) first ∙ there) in
-    ap (λ xs. place ns (xs ++ d)) (take_more_set cell a digit q) ∙ ap (place ns) (append_assoc (take a cell) (digit ∷ []) d) ∙ whole
+    (ap (λ ms. cell_index ms (digit ∷ d)) first ∙ there) in
+    ap (λ xs. cell_index ns (xs ++ d)) (take_more_set cell a digit q) ∙ ap (cell_index ns) (append_assoc (take a cell) (digit ∷ []) d) ∙ whole
 
--- no two cells have one place
-pub one-cell : (ns c d : List ℕ) → IsCell ns c → IsCell ns d → place ns c ≡ place ns d → c ≡ d
+-- no two cells have one index
+pub one-cell : (ns c d : List ℕ) → IsCell ns c → IsCell ns d → cell_index ns c ≡ cell_index ns d → c ≡ d
 one-cell ns c d h g e = same_Some c d (sym (cell-there ns c h) ∙ ap (slice_get (choices (map below ns))) e ∙ cell-there ns d g)
 
 -- the intervals that are there and one more are intervals of their attributes
@@ -49,13 +49,13 @@ each-more ns cell a v p below here k q = by (cases_lt k a)
         subst (λ (j : ℕ). slice_index (slice_set cell a v) j < slice_index ns j) same (omega (arith, get_or-set_same cell a v 0 p, here))
 
 -- where nothing is left, the cell is whole
-pub completed : (ns cell : List ℕ) (a rest at : ℕ) → length ns ≤ a → length cell ≤ a → rest ≡ 0 → Completes ns cell a rest at → place ns cell ≡ at
+pub completed : (ns cell : List ℕ) (a rest at : ℕ) → length ns ≤ a → length cell ≤ a → rest ≡ 0 → Completes ns cell a rest at → cell_index ns cell ≡ at
 completed ns cell a rest at p q e h =
     let none : drop a ns ≡ [] = drop_all a ns p in
-    ap (place ns) (sym (append-nil (take a cell) ∙ take_all a cell q))
-    ∙ h [] (subst (λ (ms : List ℕ). IsCell ms []) (sym none) (record { count = refl; each = λ b r. absurd (omega (arith, r)) })) (ap (λ ms. place ms []) none ∙ sym e)
+    ap (cell_index ns) (sym (append-nil (take a cell) ∙ take_all a cell q))
+    ∙ h [] (subst (λ (ms : List ℕ). IsCell ms []) (sym none) (record { count = refl; each = λ b r. absurd (omega (arith, r)) })) (ap (λ ms. cell_index ms []) none ∙ sym e)
 
--- the attributes below a have their intervals, and this is left of the place for the others, which have so many cells
+-- the attributes below a have their intervals, and this is left of the index for the others, which have so many cells
 pub record Dealt (ns cell : List ℕ) (a size rest at : ℕ) : Type 0 where
   pub count : length cell ≡ length ns
   pub whole : size ≡ product (drop a ns)
@@ -79,8 +79,8 @@ deal ns cell a size rest at h p d =
       completes = completes-more ns cell a rest (size / slice_index ns a) at p inside some smaller few d.completes;
     }
 
--- where each attribute has its interval, it is the cell in the place
-pub dealt-all : (ns cell : List ℕ) (a size rest at : ℕ) → length ns ≤ a → Dealt ns cell a size rest at → IsCell ns cell × (place ns cell ≡ at)
+-- where each attribute has its interval, it is the cell at the index
+pub dealt-all : (ns cell : List ℕ) (a size rest at : ℕ) → length ns ≤ a → Dealt ns cell a size rest at → IsCell ns cell × (cell_index ns cell ≡ at)
 dealt-all ns cell a size rest at p d = (
   record { count = d.count; each = λ k q. d.each k (omega (arith, p, q)) },
   completed ns cell a rest at p (omega (arith, p, d.count)) (omega (arith, d.below, d.whole, ap product (drop_all a ns p))) d.completes,

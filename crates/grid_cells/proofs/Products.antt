@@ -1,12 +1,12 @@
--- Products of numbers that are at least 1, and places that are built up by attribute.
+-- Products of numbers that are at least 1, and indices that are built up by attribute.
 use Rattle.std.proofs.Common.{◌≡◌, ◌<◌, ◌≤◌, ◌+◌, ◌*◌, ◌/◌, ℕ, zero, suc, List, [], ◌∷◌, length, slice_index, drop, fold, zip, map, sym, ap, ◌∙◌, arith}
 use Rattle.std.proofs.Math.Nat.{mul_assoc, le-mul_of_pos_right, one-le-mul, mul-div_cancel_left}
 use Rattle.std.proofs.lemmas.List.{drop_more, drop_all}
 use Rattle.std.proofs.lemmas.Option.{slice_get_within}
 use Rattle.grid_model.specs.Lists.{product, choices, below}
-use Rattle.grid_model.specs.Cells.{place}
+use Rattle.grid_model.specs.Cells.{cell_index}
 use Rattle.grid_model.specs.ScaleLaws.{IsCell}
-use Rattle.grid_model.proofs.Places.{cell-there, cells-counted}
+use Rattle.grid_model.proofs.Indices.{cell-there, cells-counted}
 use Rattle.grid_cells.specs.Dims.{IsDims}
 
 -- each number is at least 1
@@ -37,19 +37,19 @@ part-few c r whole p e = omega (arith, e, le-mul_of_pos_right c (part-above r p)
     part-above : (r : ℕ) → 1 ≤ r → 0 < r
     part-above r p = omega (arith, p)
 
--- a place that is built up by attribute
+-- an index that is built up by attribute
 abbrev pub onward : ℕ → List ℕ → List ℕ → ℕ
 onward at ns cell = fold (λ at p. at * p.0 + p.1) at (zip ns cell)
 
 -- the next attribute
-pub place-step : (ns cell : List ℕ) (at a : ℕ) → a < length ns → a < length cell → onward at (drop a ns) (drop a cell) ≡ place ns cell → onward (at * slice_index ns a + slice_index cell a) (drop (a + 1) ns) (drop (a + 1) cell) ≡ place ns cell
-place-step ns cell at a p q e = sym (λ i. onward at (drop_more ns a 0 p i) (drop_more cell a 0 q i)) ∙ e
+pub cell_index-step : (ns cell : List ℕ) (at a : ℕ) → a < length ns → a < length cell → onward at (drop a ns) (drop a cell) ≡ cell_index ns cell → onward (at * slice_index ns a + slice_index cell a) (drop (a + 1) ns) (drop (a + 1) cell) ≡ cell_index ns cell
+cell_index-step ns cell at a p q e = sym (λ i. onward at (drop_more ns a 0 p i) (drop_more cell a 0 q i)) ∙ e
 
--- a cell's place is below the number of cells
-pub place-below : (ns cell : List ℕ) → IsCell ns cell → place ns cell < product ns
-place-below ns cell h = omega (arith, slice_get_within (choices (map below ns)) (place ns cell) cell (cell-there ns cell h), cells-counted ns)
+-- a cell's index is below the number of cells
+pub cell_index-below : (ns cell : List ℕ) → IsCell ns cell → cell_index ns cell < product ns
+cell_index-below ns cell h = omega (arith, slice_get_within (choices (map below ns)) (cell_index ns cell) cell (cell-there ns cell h), cells-counted ns)
 
--- what is built up is at most the place
+-- what is built up is at most the index
 pub onward-grows : (ns cell : List ℕ) (at : ℕ) → Positive ns → at ≤ onward at ns cell
 onward-grows [] cell at h = omega arith
 onward-grows (n ∷ ns) [] at h = omega arith
@@ -64,18 +64,18 @@ positive-rest [] (suc k) h = λ a p. absurd (omega (arith, p))
 positive-rest (n ∷ ns) (suc k) h = positive-rest ns k (λ a p. h (suc a) (omega (arith, p)))
 
 -- what is built up stays below a million
-pub step-fits : (ns cell : List ℕ) (at a : ℕ) → IsDims ns → IsCell ns cell → a < length ns → onward at (drop a ns) (drop a cell) ≡ place ns cell → at * slice_index ns a + slice_index cell a < 1000000
+pub step-fits : (ns cell : List ℕ) (at a : ℕ) → IsDims ns → IsCell ns cell → a < length ns → onward at (drop a ns) (drop a cell) ≡ cell_index ns cell → at * slice_index ns a + slice_index cell a < 1000000
 step-fits ns cell at a d c p e = omega (
   arith,
   d.few,
-  place-below ns cell c,
-  place-step ns cell at a p (omega (arith, p, c.count)) e,
+  cell_index-below ns cell c,
+  cell_index-step ns cell at a p (omega (arith, p, c.count)) e,
   onward-grows (drop (a + 1) ns) (drop (a + 1) cell) (at * slice_index ns a + slice_index cell a) (positive-rest ns (a + 1) d.each),
 )
 
--- at the end it is the place
-pub place-done : (ns cell : List ℕ) (at a : ℕ) → length ns ≤ a → length cell ≤ a → onward at (drop a ns) (drop a cell) ≡ place ns cell → at ≡ place ns cell
-place-done ns cell at a p q e = sym (λ i. onward at (drop_all a ns p i) (drop_all a cell q i)) ∙ e
+-- at the end it is the index
+pub cell_index-done : (ns cell : List ℕ) (at a : ℕ) → length ns ≤ a → length cell ≤ a → onward at (drop a ns) (drop a cell) ≡ cell_index ns cell → at ≡ cell_index ns cell
+cell_index-done ns cell at a p q e = sym (λ i. onward at (drop_all a ns p i) (drop_all a cell q i)) ∙ e
 
 -- the product of the rest, without its first number
 pub size-step : (ns : List ℕ) (size a : ℕ) → a < length ns → Positive ns → size ≡ product (drop a ns) → size / slice_index ns a ≡ product (drop (a + 1) ns)

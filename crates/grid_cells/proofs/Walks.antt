@@ -3,11 +3,11 @@ use Rattle.std.proofs.Common.{◌≡◌, ◌<◌, ◌≤◌, ◌+◌, ◌*◌, �
 use Rattle.std.proofs.Math.Nat.{mul-le-mul_right}
 use Rattle.std.proofs.lemmas.Bool.{cases_lt, cases_order}
 use Rattle.grid_model.specs.Lists.{product}
-use Rattle.grid_model.specs.Cells.{place}
+use Rattle.grid_model.specs.Cells.{cell_index}
 use Rattle.grid_model.specs.ScaleLaws.{IsCell}
-use Rattle.grid_model.proofs.Places.{place-on}
+use Rattle.grid_model.proofs.Indices.{cell_index-cons}
 use Rattle.grid_cells.specs.Boxes.{InBox, IsNextInBox, IsLast}
-use Rattle.grid_cells.proofs.Products.{place-below}
+use Rattle.grid_cells.proofs.Products.{cell_index-below}
 
 -- a cell lies in a box of the directory
 pub record Lies (ns lo hi cell : List ℕ) : Type 0 where
@@ -62,17 +62,17 @@ cons n l h c ns lo hi cell p q r f = record {
 lowest : (ns lo hi cell : List ℕ) → Lies ns lo hi cell → Lies ns lo hi lo
 lowest ns lo hi cell f = record { lows = f.lows; highs = f.highs; count = f.lows; above = λ b p. omega arith; below = λ b p. omega (arith, f.above b p, f.below b p); under = f.under }
 
--- a cell with no lower interval has no lower place
-pub place-grows : (ns xs ys : List ℕ) → length xs ≡ length ns → length ys ≡ length ns → ((b : ℕ) → b < length ns → slice_index xs b ≤ slice_index ys b) → place ns xs ≤ place ns ys
-place-grows [] xs ys p q h = omega arith
-place-grows (n ∷ ns) [] ys p q h = absurd (omega (arith, p))
-place-grows (n ∷ ns) (x ∷ xs) [] p q h = absurd (omega (arith, q))
-place-grows (n ∷ ns) (x ∷ xs) (y ∷ ys) p q h = omega (
+-- a cell with no lower interval has no lower index
+pub cell_index-grows : (ns xs ys : List ℕ) → length xs ≡ length ns → length ys ≡ length ns → ((b : ℕ) → b < length ns → slice_index xs b ≤ slice_index ys b) → cell_index ns xs ≤ cell_index ns ys
+cell_index-grows [] xs ys p q h = omega arith
+cell_index-grows (n ∷ ns) [] ys p q h = absurd (omega (arith, p))
+cell_index-grows (n ∷ ns) (x ∷ xs) [] p q h = absurd (omega (arith, q))
+cell_index-grows (n ∷ ns) (x ∷ xs) (y ∷ ys) p q h = omega (
   arith,
-  place-on n x ns xs (omega (arith, p)),
-  place-on n y ns ys (omega (arith, q)),
+  cell_index-cons n x ns xs (omega (arith, p)),
+  cell_index-cons n y ns ys (omega (arith, q)),
   mul-le-mul_right (product ns) (h zero (omega arith)),
-  place-grows ns xs ys (omega (arith, p)) (omega (arith, q)) (λ b r. h (suc b) (omega (arith, r))),
+  cell_index-grows ns xs ys (omega (arith, p)) (omega (arith, q)) (λ b r. h (suc b) (omega (arith, r))),
 )
 
 -- the cell with its interval of attribute a one up, and the lowest intervals behind it
@@ -90,19 +90,19 @@ stays (n ∷ ns) (l ∷ lo) (h ∷ hi) (c ∷ cell) zero f p q =
 stays (n ∷ ns) (l ∷ lo) (h ∷ hi) (c ∷ cell) (suc a) f p q =
     cons n l h c ns lo hi (stepped cell lo a) (f.above zero (omega arith)) (f.below zero (omega arith)) (f.under zero (omega arith)) (stays ns lo hi cell a (tail n l h c ns lo hi cell f) (omega (arith, p)) q)
 
--- its place is above
-rises : (ns lo hi cell : List ℕ) (a : ℕ) → Lies ns lo hi cell → a < length ns → slice_index cell a < slice_index hi a → place ns cell < place ns (stepped cell lo a)
+-- its index is above
+rises : (ns lo hi cell : List ℕ) (a : ℕ) → Lies ns lo hi cell → a < length ns → slice_index cell a < slice_index hi a → cell_index ns cell < cell_index ns (stepped cell lo a)
 rises [] lo hi cell a f p q = absurd (omega (arith, p))
 rises (n ∷ ns) [] hi cell a f p q = absurd (omega (arith, f.lows))
 rises (n ∷ ns) (l ∷ lo) [] cell a f p q = absurd (omega (arith, f.highs))
 rises (n ∷ ns) (l ∷ lo) (h ∷ hi) [] a f p q = absurd (omega (arith, f.count))
 rises (n ∷ ns) (l ∷ lo) (h ∷ hi) (c ∷ cell) zero f p q =
     let g = tail n l h c ns lo hi cell f in
-    omega (arith, place-on n c ns cell g.count, place-on n (c + 1) ns lo g.lows, place-below ns cell (is-cell ns lo hi cell g))
+    omega (arith, cell_index-cons n c ns cell g.count, cell_index-cons n (c + 1) ns lo g.lows, cell_index-below ns cell (is-cell ns lo hi cell g))
 rises (n ∷ ns) (l ∷ lo) (h ∷ hi) (c ∷ cell) (suc a) f p q =
     let g = tail n l h c ns lo hi cell f in
     let s = stays ns lo hi cell a g (omega (arith, p)) q in
-    omega (arith, place-on n c ns cell g.count, place-on n c ns (stepped cell lo a) s.count, rises ns lo hi cell a g (omega (arith, p)) q)
+    omega (arith, cell_index-cons n c ns cell g.count, cell_index-cons n c ns (stepped cell lo a) s.count, rises ns lo hi cell a g (omega (arith, p)) q)
 
 -- a higher first interval is a whole round further
 round-up : (c e P : ℕ) → c < e → c * P + P ≤ e * P
@@ -113,7 +113,7 @@ round-up c e P p = omega (arith, mul-le-mul_right P (next c e p))
 
 -- no cell of the box lies between
 nearest : (ns lo hi cell other : List ℕ) (a : ℕ) → Lies ns lo hi cell → Lies ns lo hi other → a < length ns → slice_index cell a < slice_index hi a → ((b : ℕ) → a < b → b < length ns → slice_index cell b ≡ slice_index hi b)
-    → place ns cell < place ns other → place ns (stepped cell lo a) ≤ place ns other
+    → cell_index ns cell < cell_index ns other → cell_index ns (stepped cell lo a) ≤ cell_index ns other
 nearest [] lo hi cell other a f k p q t r = absurd (omega (arith, p))
 nearest (n ∷ ns) [] hi cell other a f k p q t r = absurd (omega (arith, f.lows))
 nearest (n ∷ ns) (l ∷ lo) [] cell other a f k p q t r = absurd (omega (arith, f.highs))
@@ -122,27 +122,27 @@ nearest (n ∷ ns) (l ∷ lo) (h ∷ hi) (c ∷ cell) [] a f k p q t r = absurd 
 nearest (n ∷ ns) (l ∷ lo) (h ∷ hi) (c ∷ cell) (e ∷ other) zero f k p q t r =
     let g = tail n l h c ns lo hi cell f in
     let m = tail n l h e ns lo hi other k in
-    let here = place-on n c ns cell g.count in
-    let there = place-on n e ns other m.count in
-    let most : place ns other ≤ place ns cell = place-grows ns other cell m.count g.count (λ b s. omega (arith, m.below b s, t (suc b) (omega arith) (omega (arith, s)))) in
-    let least : place ns lo ≤ place ns other = place-grows ns lo other g.lows m.count m.above in
+    let here = cell_index-cons n c ns cell g.count in
+    let there = cell_index-cons n e ns other m.count in
+    let most : cell_index ns other ≤ cell_index ns cell = cell_index-grows ns other cell m.count g.count (λ b s. omega (arith, m.below b s, t (suc b) (omega arith) (omega (arith, s)))) in
+    let least : cell_index ns lo ≤ cell_index ns other = cell_index-grows ns lo other g.lows m.count m.above in
     by here there most least (cases_lt c e)
   where
-    by : place (n ∷ ns) (c ∷ cell) ≡ c * product ns + place ns cell → place (n ∷ ns) (e ∷ other) ≡ e * product ns + place ns other → place ns other ≤ place ns cell → place ns lo ≤ place ns other
-        → (c < e) ⊎ (e ≤ c) → place (n ∷ ns) (stepped (c ∷ cell) (l ∷ lo) zero) ≤ place (n ∷ ns) (e ∷ other)
-    by here there most least (inl s) = omega (arith, there, least, round-up c e (product ns) s, place-on n (c + 1) ns lo (omega (arith, f.lows)))
+    by : cell_index (n ∷ ns) (c ∷ cell) ≡ c * product ns + cell_index ns cell → cell_index (n ∷ ns) (e ∷ other) ≡ e * product ns + cell_index ns other → cell_index ns other ≤ cell_index ns cell → cell_index ns lo ≤ cell_index ns other
+        → (c < e) ⊎ (e ≤ c) → cell_index (n ∷ ns) (stepped (c ∷ cell) (l ∷ lo) zero) ≤ cell_index (n ∷ ns) (e ∷ other)
+    by here there most least (inl s) = omega (arith, there, least, round-up c e (product ns) s, cell_index-cons n (c + 1) ns lo (omega (arith, f.lows)))
     by here there most least (inr s) = absurd (omega (arith, r, here, there, most, mul-le-mul_right (product ns) s))
 nearest (n ∷ ns) (l ∷ lo) (h ∷ hi) (c ∷ cell) (e ∷ other) (suc a) f k p q t r =
     let g = tail n l h c ns lo hi cell f in
     let m = tail n l h e ns lo hi other k in
     let s = stays ns lo hi cell a g (omega (arith, p)) q in
-    by (place-on n c ns cell g.count) (place-on n e ns other m.count) (place-on n c ns (stepped cell lo a) s.count) (place-below ns (stepped cell lo a) (is-cell ns lo hi (stepped cell lo a) s)) (place-below ns other (is-cell ns lo hi other m))
+    by (cell_index-cons n c ns cell g.count) (cell_index-cons n e ns other m.count) (cell_index-cons n c ns (stepped cell lo a) s.count) (cell_index-below ns (stepped cell lo a) (is-cell ns lo hi (stepped cell lo a) s)) (cell_index-below ns other (is-cell ns lo hi other m))
     (nearest ns lo hi cell other a g m (omega (arith, p)) q (λ b u v. t (suc b) (omega (arith, u)) (omega (arith, v))))
     (cases_order c e)
   where
-    by : place (n ∷ ns) (c ∷ cell) ≡ c * product ns + place ns cell → place (n ∷ ns) (e ∷ other) ≡ e * product ns + place ns other → place (n ∷ ns) (c ∷ stepped cell lo a) ≡ c * product ns + place ns (stepped cell lo a)
-        → place ns (stepped cell lo a) < product ns → place ns other < product ns → (place ns cell < place ns other → place ns (stepped cell lo a) ≤ place ns other)
-        → (c ≡ e) ⊎ ((c < e) ⊎ (e < c)) → place (n ∷ ns) (c ∷ stepped cell lo a) ≤ place (n ∷ ns) (e ∷ other)
+    by : cell_index (n ∷ ns) (c ∷ cell) ≡ c * product ns + cell_index ns cell → cell_index (n ∷ ns) (e ∷ other) ≡ e * product ns + cell_index ns other → cell_index (n ∷ ns) (c ∷ stepped cell lo a) ≡ c * product ns + cell_index ns (stepped cell lo a)
+        → cell_index ns (stepped cell lo a) < product ns → cell_index ns other < product ns → (cell_index ns cell < cell_index ns other → cell_index ns (stepped cell lo a) ≤ cell_index ns other)
+        → (c ≡ e) ⊎ ((c < e) ⊎ (e < c)) → cell_index (n ∷ ns) (c ∷ stepped cell lo a) ≤ cell_index (n ∷ ns) (e ∷ other)
     by here there next short few rest (inl s) =
         let same : c * product ns ≡ e * product ns = ap (λ x. x * product ns) s in
         omega (arith, there, next, same, rest (omega (arith, r, here, there, same)))
@@ -167,4 +167,4 @@ pub is-last : (ns lo hi cell : List ℕ) → length lo ≡ length ns → IsCell 
 is-last ns lo hi cell p h i t other j =
     let f = lies ns lo hi cell p h i in
     let k = lies ns lo hi other p h j in
-    place-grows ns other cell k.count f.count (λ b q. omega (arith, k.below b q, t b q))
+    cell_index-grows ns other cell k.count f.count (λ b q. omega (arith, k.below b q, t b q))

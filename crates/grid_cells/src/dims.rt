@@ -1,7 +1,7 @@
-//! How many intervals each attribute has, and the places of cells.
+//! How many intervals each attribute has, and the indices of cells.
 ghost use Rattle.std.specs.Prelude.{◌≡◌, ◌<◌, ℕ, List, MatchOption};
 ghost use Rattle.grid_model.specs.Lists.{product};
-ghost use Rattle.grid_model.specs.Cells.{place};
+ghost use Rattle.grid_model.specs.Cells.{cell_index};
 ghost use Rattle.grid_model.specs.ScaleLaws.{IsCell};
 ghost use Rattle.grid_cells.specs.Dims.{IsDims};
 ghost use Rattle.grid_cells.specs.Boxes.{InBox, IsNextInBox, IsLast};
@@ -27,11 +27,11 @@ fn product_of(numbers: &[u32]) -> u32
     cells
 }
 
-/// The place of a cell.
-fn place_of<const K: usize>(numbers: &[u32; K], cell: &[u32; K]) -> u32
+/// The index of a cell.
+fn index_of<const K: usize>(numbers: &[u32; K], cell: &[u32; K]) -> u32
     requires dims { IsDims numbers.now }
     requires cell { IsCell numbers.now cell.now }
-    ensures value { result ≡ place numbers.now cell.now }
+    ensures value { result ≡ cell_index numbers.now cell.now }
     ensures below { result < product numbers.now }
 {
     let mut at = 0;
@@ -41,12 +41,12 @@ fn place_of<const K: usize>(numbers: &[u32; K], cell: &[u32; K]) -> u32
     at
 }
 
-/// The cell in a place.
+/// The cell at an index.
 fn cell_at<const K: usize>(numbers: &[u32; K], at: u32) -> [u32; K]
     requires dims { IsDims numbers.now }
     requires below { at < product numbers.now }
     ensures cell { IsCell numbers.now result }
-    ensures place { place numbers.now result ≡ at }
+    ensures index { cell_index numbers.now result ≡ at }
 {
     let mut cell = [0; K];
     let mut size = product_of(numbers);
@@ -67,26 +67,26 @@ impl<const K: usize> Dims<K> {
         product_of(&self.n)
     }
 
-    /// The place of a cell in the directory.
-    pub fn place(&self, cell: &[u32; K]) -> u32
+    /// The index of a cell in the directory.
+    pub fn index(&self, cell: &[u32; K]) -> u32
         requires { IsCell self.now.n cell.now }
-        ensures value { result ≡ place self.now.n cell.now }
+        ensures value { result ≡ cell_index self.now.n cell.now }
         ensures below { result < product self.now.n }
     {
-        place_of(&self.n, cell)
+        index_of(&self.n, cell)
     }
 
-    /// The cell in a place of the directory.
+    /// The cell at an index of the directory.
     pub fn cell(&self, at: u32) -> [u32; K]
         requires { at < product self.now.n }
         ensures cell { IsCell self.now.n result }
-        ensures place { place self.now.n result ≡ at }
-        ensures only { (other : List ℕ) → IsCell self.now.n other → place self.now.n other ≡ at → other ≡ result }
+        ensures index { cell_index self.now.n result ≡ at }
+        ensures only { (other : List ℕ) → IsCell self.now.n other → cell_index self.now.n other ≡ at → other ≡ result }
     {
         cell_at(&self.n, at)
     }
 
-    /// The cell of a box that follows this one in the order of places. The first cell of the box is `lo`, and the last is `hi`.
+    /// The cell of a box that follows this one in the order of indices. The first cell of the box is `lo`, and the last is `hi`.
     pub fn next(&self, lo: &[u32; K], hi: &[u32; K], cell: &[u32; K]) -> Option<[u32; K]>
         requires highest { IsCell self.now.n hi.now }
         requires inside { InBox lo.now hi.now cell.now }

@@ -1,4 +1,4 @@
-//! Cells: their places in the directory, the walk through a box of them, and what they were before a refinement.
+//! Cells: their indices in the directory, the walk through a box of them, and what they were before a refinement.
 #![tactic(auto)]
 
 mod dims;

@@ -36,15 +36,15 @@ fn walks_come_to_each_cell(rt: HostRuntime) -> Result<(), Fail> {
 
 #[test]
 #[tactic(auto, using(crate::proofs::Literals::literal))]
-fn cells_have_places(rt: HostRuntime) -> Result<(), Fail> {
+fn cells_have_indices(rt: HostRuntime) -> Result<(), Fail> {
     let few = Dims { n: [3, 4] };
     assert_eq!(rt; few.cells(), 12);
-    assert_eq!(rt; few.place(&[2, 1]), 9);
+    assert_eq!(rt; few.index(&[2, 1]), 9);
     assert_eq!(rt; few.cell(9), [2, 1]);
     let many = Dims { n: [100, 100, 100] };
     assert_eq!(rt; many.cells(), 1_000_000);
     assert_eq!(rt; many.cell(999_998), [99, 99, 98]);
-    assert_eq!(rt; many.place(&[99, 98, 99]), 999_899);
+    assert_eq!(rt; many.index(&[99, 98, 99]), 999_899);
     Ok(())
 }
 

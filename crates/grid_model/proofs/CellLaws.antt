@@ -6,10 +6,10 @@ use Rattle.grid_types.proofs.Numbers.{first, second}
 use Rattle.grid_model.specs.Lists.{from_to, zip_with, choices, is_among}
 use Rattle.grid_model.specs.Scales.{scale_of, is_scale, interval, refined}
 use Rattle.grid_model.specs.Cells.{dims, cell_of, image_of, interval_before}
-use Rattle.grid_model.specs.ScaleLaws.{IsCell, HavePlaces}
+use Rattle.grid_model.specs.ScaleLaws.{IsCell, HaveIndices}
 use Rattle.grid_model.proofs.ScaleLaws.{few-intervals, interval-grows, interval-above, interval-below}
 use Rattle.grid_model.proofs.Members.{contains-first, contains-map, contains-flat, contains-range}
-use Rattle.grid_model.proofs.Places.{cells-counted, cell-there, place-there}
+use Rattle.grid_model.proofs.Indices.{cells-counted, cell-there, index-there}
 
 key-count : (scales : List (List ℕ)) (k : List ℕ) → length k ≡ length scales → length (cell_of scales k) ≡ length (dims scales)
 key-count [] k l = refl
@@ -63,12 +63,12 @@ old-cell (s ∷ scales) [] a v l p e fresh = absurd (omega (arith, l))
 old-cell (s ∷ scales) (x ∷ k) zero v l p e fresh = ap (λ i. i ∷ cell_of scales k) (before-refined s v x e fresh)
 old-cell (s ∷ scales) (x ∷ k) (suc a) v l p e fresh = ap (λ cell. interval s x ∷ cell) (old-cell scales k a v (omega (arith, l)) (omega (arith, p)) e fresh)
 
--- cells have places
-pub have-places : (K : ℕ) → HavePlaces K
-have-places K = record {
+-- cells have indices
+pub have-indices : (K : ℕ) → HaveIndices K
+have-indices K = record {
   count = λ scales. cells-counted (dims scales);
   cell_there = λ scales. cell-there (dims scales);
-  place_of = λ scales. place-there (dims scales);
+  index_of = λ scales. index-there (dims scales);
   key = key-has-cell;
   region = λ scales r k l h. cell-between scales r.lo k r.hi l (first (pointwise nat_le r.lo k) (pointwise nat_le k r.hi) h) (second (pointwise nat_le r.lo k) (pointwise nat_le k r.hi) h);
   image = old-cell;

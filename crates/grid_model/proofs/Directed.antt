@@ -9,7 +9,7 @@
 -- told-higher-number-survives: the higher number survives a merge
 -- told-parts-of-the-moved-box: the parts of a cut or merge are all, one, or those of another box
 -- told-parts-of-the-refined-directory: a refinement needs the old parts, or one
--- told-thousand-cells-per-part: the cell at place 1000 lies in part 0
+-- told-thousand-cells-per-part: the cell at index 1000 lies in part 0
 -- told-seven-tenths-of-ten: the merge bound is 6 or 8 tenths
 -- told-seven-tenths-rounded-down: the merge bound is rounded up
 -- told-cells-after-refinement: the cells before a refinement are compared with M

@@ -10,7 +10,7 @@ pub mod Members
 pub mod Choosing
 pub mod CutLaws
 pub mod ScaleLaws
-pub mod Places
+pub mod Indices
 pub mod CellLaws
 pub mod Refining
 pub mod Numbered

@@ -1,4 +1,4 @@
--- A cell is a list of one interval for each attribute. Cells have places in the directory, and a thousand make a part.
+-- A cell is a list of one interval for each attribute. Each cell has an index in the directory, and a thousand cells make a part.
 use Rattle.std.specs.Prelude.{ℕ, ◌+◌, ◌-◌, ◌*◌, ◌/◌, List, map, nat_lt, ◌==◌, if◌then◌else◌, slice_index, slice_set, filter, fold, zip}
 use Rattle.std.specs.List.{list_any}
 use Rattle.grid_types.specs.declared.region.Region.{Region}
@@ -25,15 +25,15 @@ cell_of scales key = zip_with interval scales key
 abbrev pub corner : List (List ℕ) → List ℕ → List ℕ
 corner scales cell = zip_with low scales cell
 
--- the place of a cell: it begins as 0, and for each attribute in order it becomes the place times the number of intervals, plus the cell's interval
-abbrev pub place : List ℕ → List ℕ → ℕ
-place ns cell = fold (λ at p. at * p.0 + p.1) 0 (zip ns cell)
+-- the index of a cell: it begins as 0, and for each attribute in order it becomes itself times the number of intervals, plus the cell's interval
+abbrev pub cell_index : List ℕ → List ℕ → ℕ
+cell_index ns cell = fold (λ at p. at * p.0 + p.1) 0 (zip ns cell)
 
 -- the directory part of a cell
 abbrev pub part_of : List (List ℕ) → List ℕ → ℕ
-part_of scales cell = place (dims scales) cell / 1000
+part_of scales cell = cell_index (dims scales) cell / 1000
 
--- all cells, in the order of their places
+-- all cells, in the order of their indices
 abbrev pub all_cells : List (List ℕ) → List (List ℕ)
 all_cells scales = choices (map below (dims scales))
 
@@ -45,7 +45,7 @@ interval_before i c = if nat_lt i c then c - 1 else c
 abbrev pub image_of : List ℕ → ℕ → ℕ → List ℕ
 image_of cell a i = slice_set cell a (interval_before i (slice_index cell a))
 
--- the cells of a region, in the order of their places
+-- the cells of a region, in the order of their indices
 abbrev pub cells_of : {K : ℕ} → List (List ℕ) → Region K → List (List ℕ)
 cells_of scales r = choices (zip_with from_to (cell_of scales r.lo) (cell_of scales r.hi))
 

@@ -78,7 +78,7 @@ pub record IsSound {K : ℕ} (shape : Shape) (L : Layout K) (t : Table) : Type 0
 abbrev pub number_at : {K : ℕ} → Layout K → List ℕ → ℕ
 number_at L k = option_map_or (λ e. e.0) (holder L k) 0
 
--- the directory: for each cell, in the order of places, the number of the box that has its lowest key
+-- the directory: for each cell, in the order of the indices, the number of the box that has its lowest key
 unfoldable pub directory : {K : ℕ} → Layout K → List ℕ
 directory L = map (λ cell. number_at L (corner L.scales cell)) (all_cells L.scales)
 

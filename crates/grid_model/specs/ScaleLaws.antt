@@ -4,7 +4,7 @@ use Rattle.grid_types.specs.declared.region.Region.{Region}
 use Rattle.grid_types.specs.Regions.{contains}
 use Rattle.grid_model.specs.Lists.{is_among}
 use Rattle.grid_model.specs.Scales.{scale_of, top, is_scale, interval, low, high, is_drawn, refined}
-use Rattle.grid_model.specs.Cells.{dims, cells, cell_of, place, all_cells, cells_of, image_of}
+use Rattle.grid_model.specs.Cells.{dims, cells, cell_of, cell_index, all_cells, cells_of, image_of}
 
 -- a scale parts the numbers into intervals: an interval's bounds contain a number exactly where it is the number's interval; a fresh boundary makes a scale again, which cuts one interval in two and keeps all ends
 pub record PartsNumbers : Type 0 where
@@ -22,11 +22,11 @@ pub record IsCell (ns cell : List ℕ) : Type 0 where
   pub count : length cell ≡ length ns
   pub each : (a : ℕ) → a < length ns → slice_index cell a < slice_index ns a
 
--- cells have places: the cell in a place is the one whose place it is, and each place below the number of cells is one; a key's cell is among those of a region that has the key; and the cell of a key in a refined directory has the key's old cell as its image
-pub record HavePlaces (K : ℕ) : Type 0 where
+-- cells have indices: the cell at an index is the one whose index it is, and each index below the number of cells is one; a key's cell is among those of a region that has the key; and the cell of a key in a refined directory has the key's old cell as its image
+pub record HaveIndices (K : ℕ) : Type 0 where
   pub count : (scales : List (List ℕ)) → length (all_cells scales) ≡ cells scales
-  pub cell_there : (scales : List (List ℕ)) (cell : List ℕ) → IsCell (dims scales) cell → slice_get (all_cells scales) (place (dims scales) cell) ≡ Some cell
-  pub place_of : (scales : List (List ℕ)) (i : ℕ) (cell : List ℕ) → slice_get (all_cells scales) i ≡ Some cell → IsCell (dims scales) cell × (place (dims scales) cell ≡ i)
+  pub cell_there : (scales : List (List ℕ)) (cell : List ℕ) → IsCell (dims scales) cell → slice_get (all_cells scales) (cell_index (dims scales) cell) ≡ Some cell
+  pub index_of : (scales : List (List ℕ)) (i : ℕ) (cell : List ℕ) → slice_get (all_cells scales) i ≡ Some cell → IsCell (dims scales) cell × (cell_index (dims scales) cell ≡ i)
   pub key : (scales : List (List ℕ)) (k : List ℕ) → length k ≡ length scales → IsCell (dims scales) (cell_of scales k)
   pub region : (scales : List (List ℕ)) (r : Region K) (k : List ℕ) → length k ≡ length scales → IsTrue (contains r k) → Contains (cells_of scales r) (cell_of scales k)
   pub image : (scales : List (List ℕ)) (k : List ℕ) (a v : ℕ) → length k ≡ length scales → a < length scales → IsTrue (is_scale (scale_of scales a)) → is_among (scale_of scales a) v ≡ false

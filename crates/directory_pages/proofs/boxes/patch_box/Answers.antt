@@ -1,6 +1,6 @@
 use Rattle.std.proofs.Common.{◌+◌, ◌*◌, sym, ◌∙◌, subst, arith}
 use Rattle.std.proofs.lemmas.Bool.{false≢true}
-use Rattle.directory_pages.proofs.Boxed.{PagePatched, page_unpatched, has_place, no_place, place_passed, place_patched, all_named, all_others, all_cells}
+use Rattle.directory_pages.proofs.Boxed.{PagePatched, page_unpatched, has_index, no_index, index_passed, index_patched, all_named, all_others, all_cells}
 use Rattle.directory_pages.proofs.boxes.patch_box.Goals as goal
 use Rattle.directory_pages.proofs.boxes.patch_box.Goals.{then-is_in_box, else-is_in_box}
 
@@ -21,13 +21,13 @@ loop-i-preserved g c =
     let done = PagePatched ns lo hi part x (i + 1) first in
     elim c.if-is_in_box.branch [
       | then-is_in_box w ↦
-          let here = has_place ns lo hi c.cell.result at c.cell.ensures.cell c.cell.ensures.place (c.is_in_box.ensures.0 w.if-is_in_box.true) in
+          let here = has_index ns lo hi c.cell.result at c.cell.ensures.cell c.cell.ensures.index (c.is_in_box.ensures.0 w.if-is_in_box.true) in
           subst done (sym w.page-is)
-          (place_patched ns lo hi part x i first old w.set_bucket.new.page here (omega (arith, c.loop-i-test.true, c.cells_on-i-end.ensures)) (omega arith) w.set_bucket.ensures.written w.set_bucket.array_long
+          (index_patched ns lo hi part x i first old w.set_bucket.new.page here (omega (arith, c.loop-i-test.true, c.cells_on-i-end.ensures)) (omega arith) w.set_bucket.ensures.written w.set_bucket.array_long
           (λ cells s lt. w.set_bucket.ensures.cells part cells s lt) c.loop-i.invariant)
       | else-is_in_box w ↦
-          let out = no_place ns lo hi c.cell.result at c.cell.ensures.only (λ b. false≢true (sym w.if-is_in_box.false ∙ c.is_in_box.ensures.1 b)) in
-          subst done (sym w.page-is) (place_passed ns lo hi part x i first old out c.loop-i.invariant)
+          let out = no_index ns lo hi c.cell.result at c.cell.ensures.only (λ b. false≢true (sym w.if-is_in_box.false ∙ c.is_in_box.ensures.1 b)) in
+          subst done (sym w.page-is) (index_passed ns lo hi part x i first old out c.loop-i.invariant)
     ]
 
 pub returns-clause-named : goal.returns-clause-named

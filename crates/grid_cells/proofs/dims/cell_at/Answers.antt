@@ -8,4 +8,4 @@ loop-a-preserved g c = deal c.args.numbers.now c.loop-a.cell c.loop-a.a c.loop-a
 pub returns : goal.returns
 returns g c =
     let d = dealt-all c.args.numbers.now c.loop-a.cell c.loop-a.a c.loop-a.size c.loop-a.rest c.args.at (omega (arith, c.told-numbers, c.loop-a-test.false)) c.loop-a.invariant in
-    record { cell = d.0; place = d.1 }
+    record { cell = d.0; index = d.1 }

@@ -1,4 +1,4 @@
--- Cells have places: each place has one cell.
+-- Cells have indices: each index has one cell.
 use Rattle.std.proofs.Common.{◌≡◌, ◌<◌, ◌+◌, ◌*◌, ◌/◌, ◌%◌, ℕ, zero, suc, List, [], ◌∷◌, ◌++◌, length, slice_index, map, flat_map, fold, zip, slice_get, Some, option_map, refl, sym, ap, ◌∙◌, subst, arith}
 use Rattle.std.specs.List.{range_with_len}
 use Rattle.std.proofs.Math.Nat.{add-mul, mul_assoc, div-lt_iff_lt-mul}
@@ -6,7 +6,7 @@ use Rattle.std.proofs.lemmas.Nat.{div-add-mod', mod_below}
 use Rattle.std.proofs.lemmas.Option.{none-some, same_Some, slice_get-map, slice_get_within}
 use Rattle.std.proofs.lemmas.List.{length-map, length-append}
 use Rattle.grid_model.specs.Lists.{below, choices, product}
-use Rattle.grid_model.specs.Cells.{place}
+use Rattle.grid_model.specs.Cells.{cell_index}
 use Rattle.grid_model.specs.ScaleLaws.{IsCell}
 use Rattle.grid_model.proofs.Choosing.{map-some}
 
@@ -56,18 +56,18 @@ cells-counted (n ∷ ns) = length-blocks (onto (choices (map below ns))) (produc
 onward : (a n c P d w v : ℕ) → w ≡ (a * n + c) * P + d → v ≡ (0 * n + c) * P + d → w ≡ a * (n * P) + v
 onward a n c P d w v p q = omega (arith, p, q, add-mul (a * n) c P, mul_assoc a n P, add-mul (0 * n) c P, mul_assoc 0 n P)
 
--- a place that begins as a number begins with that number of whole rounds
-begun : (a : ℕ) (ns cell : List ℕ) → length cell ≡ length ns → fold (λ at p. at * p.0 + p.1) a (zip ns cell) ≡ a * product ns + place ns cell
+-- an index that begins as a number begins with that number of whole rounds
+begun : (a : ℕ) (ns cell : List ℕ) → length cell ≡ length ns → fold (λ at p. at * p.0 + p.1) a (zip ns cell) ≡ a * product ns + cell_index ns cell
 begun a [] [] l = omega arith
 begun a [] (c ∷ cell) l = absurd (omega (arith, l))
 begun a (n ∷ ns) [] l = absurd (omega (arith, l))
 begun a (n ∷ ns) (c ∷ cell) l =
-    onward a n c (product ns) (place ns cell) (fold (λ at p. at * p.0 + p.1) a (zip (n ∷ ns) (c ∷ cell))) (place (n ∷ ns) (c ∷ cell))
+    onward a n c (product ns) (cell_index ns cell) (fold (λ at p. at * p.0 + p.1) a (zip (n ∷ ns) (c ∷ cell))) (cell_index (n ∷ ns) (c ∷ cell))
     (begun (a * n + c) ns cell (omega (arith, l))) (begun (0 * n + c) ns cell (omega (arith, l)))
 
--- the place of a cell, by its first interval and the others
-pub place-on : (n c : ℕ) (ns cell : List ℕ) → length cell ≡ length ns → place (n ∷ ns) (c ∷ cell) ≡ c * product ns + place ns cell
-place-on n c ns cell l = begun (0 * n + c) ns cell l ∙ ap (λ x. x * product ns + place ns cell) (omega arith)
+-- the index of a cell, by its first interval and the others
+pub cell_index-cons : (n c : ℕ) (ns cell : List ℕ) → length cell ≡ length ns → cell_index (n ∷ ns) (c ∷ cell) ≡ c * product ns + cell_index ns cell
+cell_index-cons n c ns cell l = begun (0 * n + c) ns cell l ∙ ap (λ x. x * product ns + cell_index ns cell) (omega arith)
 
 rest-is-cell : (n c : ℕ) (ns cell : List ℕ) → IsCell (n ∷ ns) (c ∷ cell) → IsCell ns cell
 rest-is-cell n c ns cell h = record { count = omega (arith, h.count); each = λ a p. h.each (suc a) (omega (arith, p)) }
@@ -80,29 +80,29 @@ each-on n c ns cell p h (suc a) q = h.each a (omega (arith, q))
 pub cell-on : (n c : ℕ) (ns cell : List ℕ) → c < n → IsCell ns cell → IsCell (n ∷ ns) (c ∷ cell)
 cell-on n c ns cell p h = record { count = omega (arith, h.count); each = each-on n c ns cell p h }
 
--- the cell in a place is the one whose place it is
-pub cell-there : (ns cell : List ℕ) → IsCell ns cell → slice_get (choices (map below ns)) (place ns cell) ≡ Some cell
+-- the cell at an index is the one whose index it is
+pub cell-there : (ns cell : List ℕ) → IsCell ns cell → slice_get (choices (map below ns)) (cell_index ns cell) ≡ Some cell
 cell-there [] [] h = refl
 cell-there [] (c ∷ cell) h = absurd (omega (arith, h.count))
 cell-there (n ∷ ns) [] h = absurd (omega (arith, h.count))
 cell-there (n ∷ ns) (c ∷ cell) h =
     let rest = choices (map below ns) in
-    let there : slice_get rest (place ns cell) ≡ Some cell = cell-there ns cell (rest-is-cell n c ns cell h) in
-    let inside : place ns cell < product ns = omega (arith, slice_get_within rest (place ns cell) cell there, cells-counted ns) in
-    ap (slice_get (choices (map below (n ∷ ns)))) (place-on n c ns cell (omega (arith, h.count)))
-    ∙ in-block-of (onto rest) (product ns) (onto-length rest (product ns) (cells-counted ns)) n c (place ns cell) (h.each 0 (omega arith)) inside
-    ∙ slice_get-map (λ cell. c ∷ cell) rest (place ns cell)
+    let there : slice_get rest (cell_index ns cell) ≡ Some cell = cell-there ns cell (rest-is-cell n c ns cell h) in
+    let inside : cell_index ns cell < product ns = omega (arith, slice_get_within rest (cell_index ns cell) cell there, cells-counted ns) in
+    ap (slice_get (choices (map below (n ∷ ns)))) (cell_index-cons n c ns cell (omega (arith, h.count)))
+    ∙ in-block-of (onto rest) (product ns) (onto-length rest (product ns) (cells-counted ns)) n c (cell_index ns cell) (h.each 0 (omega arith)) inside
+    ∙ slice_get-map (λ cell. c ∷ cell) rest (cell_index ns cell)
     ∙ ap (option_map (λ cell. c ∷ cell)) there
 
 positive : (i n P : ℕ) → i < n * P → 0 < P
 positive i n zero p = absurd (omega (arith, p))
 positive i n (suc P) p = omega arith
 
--- each place below the number of cells is that of its cell
-pub place-there : (ns : List ℕ) (i : ℕ) (cell : List ℕ) → slice_get (choices (map below ns)) i ≡ Some cell → IsCell ns cell × (place ns cell ≡ i)
-place-there [] zero cell e = subst (λ (cell : List ℕ). IsCell [] cell × (place [] cell ≡ 0)) (same_Some [] cell e) (record { count = refl; each = λ a p. absurd (omega (arith, p)) }, refl)
-place-there [] (suc i) cell e = absurd (none-some cell e)
-place-there (n ∷ ns) i cell e =
+-- each index below the number of cells is that of its cell
+pub index-there : (ns : List ℕ) (i : ℕ) (cell : List ℕ) → slice_get (choices (map below ns)) i ≡ Some cell → IsCell ns cell × (cell_index ns cell ≡ i)
+index-there [] zero cell e = subst (λ (cell : List ℕ). IsCell [] cell × (cell_index [] cell ≡ 0)) (same_Some [] cell e) (record { count = refl; each = λ a p. absurd (omega (arith, p)) }, refl)
+index-there [] (suc i) cell e = absurd (none-some cell e)
+index-there (n ∷ ns) i cell e =
     let rest = choices (map below ns) in
     let P = product ns in
     let each = onto-length rest P (cells-counted ns) in
@@ -115,8 +115,8 @@ place-there (n ∷ ns) i cell e =
     let whole : c * P + j ≡ i = div-add-mod' i P in
     let found : slice_get (onto rest c) j ≡ Some cell = sym (in-block-of (onto rest) P each n c j low short) ∙ ap (slice_get (choices (map below (n ∷ ns)))) whole ∙ e in
     let tail : (cs : List ℕ) × (slice_get rest j ≡ Some cs) × ((c ∷ cs) ≡ cell) = map-some (λ cs. c ∷ cs) (slice_get rest j) cell (sym (slice_get-map (λ cs. c ∷ cs) rest j) ∙ found) in
-    let further : IsCell ns tail.0 × (place ns tail.0 ≡ j) = place-there ns j tail.0 tail.1 in
-    subst (λ (cell : List ℕ). IsCell (n ∷ ns) cell × (place (n ∷ ns) cell ≡ i)) tail.2 (
+    let further : IsCell ns tail.0 × (cell_index ns tail.0 ≡ j) = index-there ns j tail.0 tail.1 in
+    subst (λ (cell : List ℕ). IsCell (n ∷ ns) cell × (cell_index (n ∷ ns) cell ≡ i)) tail.2 (
       cell-on n c ns tail.0 low further.0,
-      place-on n c ns tail.0 further.0.count ∙ ap (λ x. c * P + x) further.1 ∙ whole,
+      cell_index-cons n c ns tail.0 further.0.count ∙ ap (λ x. c * P + x) further.1 ∙ whole,
     )
