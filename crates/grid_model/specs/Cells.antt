@@ -1,6 +1,8 @@
 -- A cell is a list of one interval for each attribute. Each cell has an index in the directory, and a thousand cells make a part.
 use Rattle.std.specs.Prelude.{ℕ, ◌+◌, ◌-◌, ◌*◌, ◌/◌, List, map, nat_lt, ◌==◌, if◌then◌else◌, slice_index, slice_set, filter, fold, zip}
 use Rattle.std.specs.List.{list_any}
+use Rattle.grid_types.specs.Shapes.{word_pages}
+use Rattle.grid_types.specs.declared.sizes.TheConstants.{WORDS_ON_PAGE}
 use Rattle.grid_types.specs.declared.region.Region.{Region}
 use Rattle.grid_model.specs.Lists.{below, from_to, zip_with, product, choices}
 use Rattle.grid_model.specs.Scales.{interval, intervals, low}
@@ -15,7 +17,7 @@ cells scales = product (dims scales)
 
 -- the number of directory parts
 abbrev pub parts : List (List ℕ) → ℕ
-parts scales = (cells scales + 999) / 1000
+parts scales = word_pages (cells scales)
 
 -- the cell of a key
 abbrev pub cell_of : List (List ℕ) → List ℕ → List ℕ
@@ -31,7 +33,7 @@ cell_index ns cell = fold (λ at p. at * p.0 + p.1) 0 (zip ns cell)
 
 -- the directory part of a cell
 abbrev pub part_of : List (List ℕ) → List ℕ → ℕ
-part_of scales cell = cell_index (dims scales) cell / 1000
+part_of scales cell = cell_index (dims scales) cell / WORDS_ON_PAGE
 
 -- all cells, in the order of their indices
 abbrev pub all_cells : List (List ℕ) → List (List ℕ)

@@ -3,6 +3,7 @@ use Rattle.std.specs.Prelude.{◌≡◌, ◌≢◌, ◌⊎◌, ℕ, ◌+◌, ◌
 use Rattle.std.specs.List as lists
 use Rattle.std.specs.List.{list_any}
 use Rattle.std.specs.Option.{option_map_or}
+use Rattle.grid_types.specs.declared.sizes.TheConstants.{PAGE_BYTES, NUMBERS_ON_PAGE, WORDS_ON_PAGE}
 use Rattle.grid_types.specs.declared.shape.Shape.{Shape}
 use Rattle.grid_types.specs.declared.update.Record.{Record}
 use Rattle.grid_types.specs.declared.layout_change.LoggedUpdate.{LoggedUpdate}
@@ -19,6 +20,7 @@ use Rattle.grid_model.specs.Layouts.{BucketBox, Layout, box, holder, records_ins
 use Rattle.grid_model.specs.Notes.{updated_key, after_note, IsLawfulNote}
 use Rattle.grid_model.specs.Lone.{State, opened, free, renewed, published, record_of, how_many}
 use Rattle.grid_model.specs.Spellings.{shape_bytes, RootFields, root_bytes, scale_spelling, list_spelling, bucket_table_spelling, directory_spelling, bucket_spelling, gate_spelling, LoggedBatch, slot_spelling}
+use Rattle.grid_model.specs.Buckets.{BucketOf, SpellsBucket}
 use Rattle.grid_model.specs.Lawful.{IsData, IsRootOn, Area, IsAreaOf, IsBatch, nowhere}
 
 -- an image is a file of a shape with K attributes: both header pages begin with the shape, and all pages are there
@@ -27,7 +29,7 @@ pub record HasShape (K : ℕ) (image : List ℕ) (s : Shape) : Type 0 where
   pub attributes : s.k ≡ K
   pub first : take 64 (page_of 0 image) ≡ shape_bytes s
   pub second : take 64 (page_of 1 image) ≡ shape_bytes s
-  pub long : file_pages s * 4096 ≤ length image
+  pub long : file_pages s * PAGE_BYTES ≤ length image
 
 -- the gate of a header page; it is open where it is 1, and closed at any other value
 abbrev pub header_gate : List ℕ → ℕ → ℕ
@@ -50,13 +52,13 @@ pub record IsNewest (s : Shape) (image : List ℕ) (r : RootFields) : Type 0 whe
 
 -- the boundaries on the first or the second page of a scale: the first page is filled first
 abbrev pub half_of_scale : ℕ → List ℕ → List ℕ
-half_of_scale half scale = if half == 0 then take 500 scale else drop 500 scale
+half_of_scale half scale = if half == 0 then take NUMBERS_ON_PAGE scale else drop NUMBERS_ON_PAGE scale
 
 -- page i of a table area that says this: two pages for each scale, then the list of the directory, then the bucket table
 abbrev pub area_spelling : ℕ → Area → ℕ → List ℕ
 area_spelling root a i =
     if nat_lt i 8 then scale_spelling root i (half_of_scale (i % 2) (scale_of a.scales (i / 2)))
-    else (if i == 8 then list_spelling root i a.parts else bucket_table_spelling root i (take 1000 (drop (1000 * (i - 9)) a.table)))
+    else (if i == 8 then list_spelling root i a.parts else bucket_table_spelling root i (take WORDS_ON_PAGE (drop (WORDS_ON_PAGE * (i - 9)) a.table)))
 
 -- the table area of a root is spelled: it is lawful for the root, and each of its pages says its part of it
 pub record HasArea (s : Shape) (image : List ℕ) (r : RootFields) (a : Area) : Type 0 where
@@ -104,28 +106,6 @@ abbrev pub Join : {K : ℕ} → List (LoggedBatch K) → ℕ → List (LoggedBat
 Join batches place [] n = (n ≡ place) × (joining batches place ≡ None)
 Join batches place (b ∷ bs) n = (joining batches place ≡ Some b) × Join batches (place + length b.updates) bs n
 
--- what a bucket page says: its number, its box and its records
-pub record BucketOf (K : ℕ) : Type 0 where
-  pub number : ℕ
-  pub box : BucketBox K
-  pub rows : List (Record K)
-
--- a bucket is lawful: it has at most its capacity of records, which ascend and lie in its region
-pub record IsBucketOf {K : ℕ} (s : Shape) (b : BucketOf K) : Type 0 where
-  pub number : b.number < s.pages
-  pub turn : b.box.turn < K
-  pub region : IsRegion K b.box.region
-  pub count : length b.rows ≤ s.capacity
-  pub ascending : IsTable (pairs_of b.rows)
-  pub keys : All (λ r. IsKey K r.key.numbers) b.rows
-  pub inside : All (λ r. IsTrue (contains b.box.region r.key.numbers)) b.rows
-  pub values : All (λ r. IsData r.value) b.rows
-
--- a data page spells a bucket
-pub record SpellsBucket {K : ℕ} (s : Shape) (bytes : List ℕ) (b : BucketOf K) : Type 0 where
-  pub lawful : IsBucketOf s b
-  pub spelled : bytes ≡ bucket_spelling K b.number b.box.turn b.box.region b.rows
-
 -- the bucket numbers that a table has
 abbrev pub numbers_of : List ℕ → List ℕ
 numbers_of table = filter (λ n. not (slice_index table n == nowhere)) (below (length table))
@@ -137,7 +117,7 @@ entry_page s image entries i = page_of (data_page s (slice_index entries i)) ima
 -- the bucket pages of a table spell these buckets, one for each number
 pub record HasBuckets {K : ℕ} (s : Shape) (image : List ℕ) (table : List ℕ) (buckets : List (BucketOf K)) : Type 0 where
   pub numbers : map (λ b. b.number) buckets ≡ numbers_of table
-  pub each : All (λ b. SpellsBucket s (entry_page s image table b.number) b) buckets
+  pub each : All (λ b. SpellsBucket s.capacity (entry_page s image table b.number) b) buckets
 
 -- the records of buckets are a table's, where no key stands on two of them
 pub record AreRecordsOf {K : ℕ} (buckets : List (BucketOf K)) (t : Table) : Type 0 where
@@ -184,7 +164,7 @@ pub record PagesSpell {K : ℕ} (s : Shape) (image : List ℕ) (parts_at table :
   pub count : length parts_at ≡ parts L.scales
   pub directory : (p : ℕ) → p < parts L.scales → entry_page s image parts_at p ≡ directory_spelling p (directory_part L p)
   pub numbers : map (λ e. e.0) L.boxes ≡ numbers_of table
-  pub buckets : (m : ℕ) (b : BucketBox K) → box L m ≡ Some b → SpellsBucket s (entry_page s image table m) (record { number = m; box = b; rows = map record_of (records_inside t b.region) })
+  pub buckets : (m : ℕ) (b : BucketBox K) → box L m ≡ Some b → SpellsBucket s.capacity (entry_page s image table m) (record { number = m; box = b; rows = map record_of (records_inside t b.region) })
 
 -- the root's pages spell a layout that is sound for the root's table, and the root has its number of records
 pub record RootSpells {K : ℕ} (image : List ℕ) (f : Found K) (L : Layout K) : Type 0 where
@@ -246,6 +226,6 @@ pub record IsExpectedPart (bytes : List ℕ) (part n : ℕ) (table cells : List 
 
 -- a bucket page is the expected one: it is spelled for that number, and its region has the key for which it was read
 pub record IsExpectedBucket {K : ℕ} (s : Shape) (bytes : List ℕ) (number : ℕ) (key : List ℕ) (b : BucketOf K) : Type 0 where
-  pub spelled : SpellsBucket s bytes b
+  pub spelled : SpellsBucket s.capacity bytes b
   pub number_is : b.number ≡ number
   pub inside : IsTrue (contains b.box.region key)

@@ -1,5 +1,7 @@
 -- Which fields of pages are lawful: their numbers are in their ranges, and say what a file may say.
 use Rattle.std.specs.Prelude.{◌≡◌, ℕ, ◌+◌, ◌*◌, ◌/◌, ◌%◌, ◌<◌, ◌≤◌, ◌^◌, List, ◌++◌, ◌==◌, not, map, filter, length, All, IsTrue, ⊤}
+use Rattle.grid_types.specs.Shapes.{word_pages}
+use Rattle.grid_types.specs.declared.sizes.TheConstants.{LONGEST_DATA, MOST_UPDATES, WORDS_ON_PAGE}
 use Rattle.grid_types.specs.declared.shape.Shape.{Shape}
 use Rattle.grid_types.specs.declared.update.Update.{Update}
 use Rattle.grid_types.specs.declared.update.Update.TheVariants.{Put, Remove}
@@ -12,9 +14,9 @@ use Rattle.grid_model.specs.Scales.{is_scale}
 use Rattle.grid_model.specs.Notes.{updated_key}
 use Rattle.grid_model.specs.Spellings.{RootFields, LoggedBatch, update_data}
 
--- data is at most 40 bytes
+-- data is no longer than the longest
 abbrev pub IsData : List ℕ → Type 0
-IsData d = length d ≤ 40
+IsData d = length d ≤ LONGEST_DATA
 
 -- the number that stands where no bucket has a number
 unfoldable pub nowhere : ℕ
@@ -33,7 +35,7 @@ pub record IsRootOn (shape : Shape) (header : ℕ) (r : RootFields) : Type 0 whe
   pub attributes : length r.boundaries ≡ shape.k
   pub few_boundaries : All (λ n. n ≤ shape.boundaries) r.boundaries
   pub few_cells : cells_of_counts r.boundaries ≤ shape.cells
-  pub parts : r.parts ≡ (cells_of_counts r.boundaries + 999) / 1000
+  pub parts : r.parts ≡ word_pages (cells_of_counts r.boundaries)
   pub some_buckets : 1 ≤ r.buckets
   pub few_buckets : r.buckets < shape.pages
   pub records : r.records ≤ r.buckets * shape.capacity
@@ -58,7 +60,7 @@ pub record IsAreaOf (shape : Shape) (r : RootFields) (a : Area) : Type 0 where
   pub pages : All (λ p. p < shape.pages) (a.parts ++ pages_named a.table)
   pub distinct : AreDistinct (a.parts ++ pages_named a.table)
 
--- an update has a key of K numbers, and data of at most 40 bytes
+-- an update has a key of K numbers, and lawful data
 pub record IsUpdateOf (K : ℕ) (u : Update K) : Type 0 where
   pub key : IsKey K (updated_key u)
   pub value : IsData (update_data u)
@@ -79,7 +81,7 @@ pub record IsLoggedUpdate {K : ℕ} (u : LoggedUpdate K) : Type 0 where
 -- a batch has a spelling: it has 1 to 16 updates, each with a spelling, a session of 64 bits, and a first place from 1 to 2 ^ 63 - 16, so that each place is below 2 ^ 63
 pub record IsBatch {K : ℕ} (b : LoggedBatch K) : Type 0 where
   pub some : 1 ≤ length b.updates
-  pub few : length b.updates ≤ 16
+  pub few : length b.updates ≤ MOST_UPDATES
   pub session : b.session < 2 ^ 64
   pub first : 1 ≤ b.first
   pub last : b.first ≤ 9223372036854775792

@@ -4,6 +4,7 @@ use Rattle.std.specs.Option.{option_map_or}
 use Rattle.std.specs.List as lists
 use Rattle.std.specs.Ordering.{nat_cmp}
 use Rattle.std.specs.FinMap.Entries.{find, where_key, is_sorted}
+use Rattle.grid_types.specs.declared.sizes.TheConstants.{WORDS_ON_PAGE}
 use Rattle.grid_types.specs.declared.region.Region.{Region}
 use Rattle.grid_types.specs.declared.shape.Shape.{Shape}
 use Rattle.grid_types.specs.Keys.{key_cmp, IsKey}
@@ -84,4 +85,4 @@ directory L = map (λ cell. number_at L (corner L.scales cell)) (all_cells L.sca
 
 -- a part of the directory: a thousand cells, the last part what is left
 unfoldable pub directory_part : {K : ℕ} → Layout K → ℕ → List ℕ
-directory_part L p = take 1000 (drop (1000 * p) (directory L))
+directory_part L p = take WORDS_ON_PAGE (drop (WORDS_ON_PAGE * p) (directory L))

@@ -18,6 +18,7 @@ pub mod Transcripts
 pub mod Sessions
 pub mod Spellings
 pub mod Lawful
+pub mod Buckets
 pub mod Images
 pub mod Computing
 pub mod TableLaws

@@ -3,6 +3,7 @@ use Rattle.std.specs.Prelude.{ℕ, ◌+◌, ◌-◌, ◌*◌, List, [], ◌∷�
 use Rattle.std.specs.Option.{option_map, option_and_then}
 use lib.Pointwise.{pointwise}
 use Rattle.hex.specs.Hex.{decode_of}
+use Rattle.grid_types.specs.declared.sizes.TheConstants.{LONGEST_DATA, MOST_CLIENTS}
 use Rattle.grid_types.specs.declared.query.Side.{Side}
 use Rattle.grid_types.specs.declared.query.Side.TheVariants.{Any, Exactly, Between}
 use Rattle.grid_types.specs.declared.query.Query.{Query}
@@ -75,7 +76,7 @@ ok_of (Err e) = None
 
 -- data: a dash for no bytes, or 2 to 80 hexadecimal digits, two for each byte, in either case
 abbrev pub parsed_data : List ℕ → Option (List ℕ)
-parsed_data w = if is_text w (codes "-") then Some [] else (if nat_le 2 (length w) && nat_le (length w) 80 then ok_of (decode_of w) else None)
+parsed_data w = if is_text w (codes "-") then Some [] else (if nat_le 2 (length w) && nat_le (length w) (2 * LONGEST_DATA) then ok_of (decode_of w) else None)
 
 -- a side from one number to another that is not below it
 abbrev pub parsed_between : Option ℕ → Option ℕ → Option Side
@@ -142,7 +143,7 @@ asks (Some r) = Asks r
 -- a client's number is 1 to 16
 abbrev pub speaks : {K : ℕ} → Option ℕ → Meaning K
 speaks None = Bad
-speaks (Some n) = if nat_le 1 n && nat_le n 16 then Speaks n else Bad
+speaks (Some n) = if nat_le 1 n && nat_le n MOST_CLIENTS then Speaks n else Bad
 
 -- what a command says
 abbrev pub command : (K : ℕ) → List (List ℕ) → Meaning K

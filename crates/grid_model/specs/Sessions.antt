@@ -4,6 +4,7 @@ use Rattle.std.specs.List.{list_any}
 use Rattle.std.specs.Option.{option_map}
 use Rattle.std.specs.Ordering.{nat_cmp}
 use Rattle.std.specs.FinMap.Entries.{put}
+use Rattle.grid_types.specs.declared.sizes.TheConstants.{MOST_CLIENTS}
 use Rattle.grid_types.specs.declared.update.Update.TheVariants.{Put, Remove}
 use Rattle.grid_types.specs.declared.update.Entry.{Entry}
 use Rattle.grid_types.specs.declared.request.Line.{Line}
@@ -29,7 +30,7 @@ lines_by client lines = filter (λ l. l.client == client) lines
 
 -- the clients that have a line, ascending, each once
 abbrev pub clients : {K : ℕ} → List (Line K) → List ℕ
-clients lines = filter (λ c. list_any (λ l. l.client == c) lines) (from_to 1 16)
+clients lines = filter (λ c. list_any (λ l. l.client == c) lines) (from_to 1 MOST_CLIENTS)
 
 -- a line with a reply
 abbrev pub exchange : {K : ℕ} → Line K → Reply K → Exchange K

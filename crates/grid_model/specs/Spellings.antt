@@ -1,6 +1,7 @@
 -- What bytes spell each kind of page. Numbers stand with the highest byte first, and bytes that are not named are 0.
 use Rattle.std.specs.Prelude.{ℕ, List, [], ◌∷◌, ◌++◌, cond, length, codes, replicate}
 use Rattle.std.specs.List.{flat_map}
+use Rattle.grid_types.specs.declared.sizes.TheConstants.{HEAD_BYTES, BODY_BYTES, KEY_BYTES, DATA_ROOM, LONGEST_DATA, UPDATE_BYTES}
 use Rattle.page_fields.specs.Fields.{bytes_of}
 use Rattle.page_fields.specs.Padded.{padded, numbers, words_of}
 use Rattle.grid_types.specs.declared.region.Region.{Region}
@@ -13,9 +14,9 @@ use Rattle.grid_types.specs.declared.layout_change.LayoutChange.TheVariants as n
 use Rattle.grid_types.specs.declared.layout_change.LoggedUpdate.{LoggedUpdate}
 use Rattle.grid_model.specs.Notes.{updated_key}
 
--- a page is a head of 96 bytes and a body of 4,000, both filled up with zeros
+-- a page is a head and a body, both filled up with zeros
 unfoldable pub page : List ℕ → List ℕ → List ℕ
-page head body = padded 96 head ++ padded 4000 body
+page head body = padded HEAD_BYTES head ++ padded BODY_BYTES body
 
 -- the front of both header pages: the file's name, its version, and the shape
 unfoldable pub shape_bytes : Shape → List ℕ
@@ -55,17 +56,17 @@ bucket_table_spelling root index pages = page (area_head (codes "GFT1") index (l
 unfoldable pub directory_spelling : ℕ → List ℕ → List ℕ
 directory_spelling part cells = page (codes "GFD1" ++ (bytes_of 4 part ++ bytes_of 4 (length cells))) (words_of cells)
 
--- a record is 32 bytes for the key, one for the length of the data, and 47 for the data
+-- a record is its key, a byte for the length of its data, and the data, key and data filled up with zeros
 unfoldable pub record_bytes : {K : ℕ} → Record K → List ℕ
-record_bytes r = padded 32 (numbers r.key.numbers) ++ (length r.value ∷ padded 47 r.value)
+record_bytes r = padded KEY_BYTES (numbers r.key.numbers) ++ (length r.value ∷ padded DATA_ROOM r.value)
 
--- the head of a bucket page is 96 bytes: the kind, the bucket's number, how many records, turn and arity, and the two corners of the region
+-- the head of a bucket page: the kind, the bucket's number, how many records, turn and arity, and the two corners of the region
 unfoldable pub bucket_head : (K : ℕ) → ℕ → ℕ → ℕ → Region K → List ℕ
-bucket_head K number count turn region = codes "GFB1" ++ (bytes_of 4 number ++ (bytes_of 2 count ++ (turn ∷ K ∷ 0 ∷ 0 ∷ 0 ∷ 0 ∷ (padded 32 (numbers region.lo) ++ (padded 32 (numbers region.hi) ++ replicate 16 0)))))
+bucket_head K number count turn region = codes "GFB1" ++ (bytes_of 4 number ++ (bytes_of 2 count ++ (turn ∷ K ∷ 0 ∷ 0 ∷ 0 ∷ 0 ∷ (padded KEY_BYTES (numbers region.lo) ++ (padded KEY_BYTES (numbers region.hi) ++ replicate 16 0)))))
 
 -- a bucket page is the head, and the records one after the other, filled up with zeros
 unfoldable pub bucket_spelling : (K : ℕ) → ℕ → ℕ → Region K → List (Record K) → List ℕ
-bucket_spelling K number turn region rows = bucket_head K number (length rows) turn region ++ padded 4000 (flat_map record_bytes rows)
+bucket_spelling K number turn region rows = bucket_head K number (length rows) turn region ++ padded BODY_BYTES (flat_map record_bytes rows)
 
 -- a gate page: the half of the journal, and the gate of each slot
 unfoldable pub gate_spelling : ℕ → List ℕ → List ℕ
@@ -105,10 +106,10 @@ abbrev pub update_data : {K : ℕ} → Update K → List ℕ
 update_data (Put r) = r.value
 update_data (Remove k) = []
 
--- the 96 bytes of an update with its note
+-- the bytes of an update with its note
 unfoldable pub update_bytes : {K : ℕ} → LoggedUpdate K → List ℕ
-update_bytes u = padded 96 (update_code u.update ∷ note_code u.note ∷ note_attribute u.note ∷ length (update_data u.update)
-    ∷ (bytes_of 4 (note_bucket u.note) ++ (bytes_of 8 (note_boundary u.note) ++ (padded 32 (numbers (updated_key u.update)) ++ padded 40 (update_data u.update)))))
+update_bytes u = padded UPDATE_BYTES (update_code u.update ∷ note_code u.note ∷ note_attribute u.note ∷ length (update_data u.update)
+    ∷ (bytes_of 4 (note_bucket u.note) ++ (bytes_of 8 (note_boundary u.note) ++ (padded KEY_BYTES (numbers (updated_key u.update)) ++ padded LONGEST_DATA (update_data u.update)))))
 
 -- a batch: the session that wrote it, the place of its first update, and its updates
 pub record LoggedBatch (K : ℕ) : Type 0 where
@@ -116,10 +117,10 @@ pub record LoggedBatch (K : ℕ) : Type 0 where
   pub first : ℕ
   pub updates : List (LoggedUpdate K)
 
--- the head of a slot page is 96 bytes: its kind, how many updates, the session and the place of the first update, filled up with zeros
+-- the head of a slot page: its kind, how many updates, the session and the place of the first update, filled up with zeros
 unfoldable pub slot_head : {K : ℕ} → LoggedBatch K → List ℕ
-slot_head b = padded 96 (codes "GFJ1" ++ (bytes_of 2 (length b.updates) ++ (0 ∷ 0 ∷ (bytes_of 8 b.session ++ bytes_of 8 b.first))))
+slot_head b = padded HEAD_BYTES (codes "GFJ1" ++ (bytes_of 2 (length b.updates) ++ (0 ∷ 0 ∷ (bytes_of 8 b.session ++ bytes_of 8 b.first))))
 
 -- a slot page is the head, and the updates one after the other, filled up with zeros
 unfoldable pub slot_spelling : {K : ℕ} → LoggedBatch K → List ℕ
-slot_spelling b = slot_head b ++ padded 4000 (flat_map update_bytes b.updates)
+slot_spelling b = slot_head b ++ padded BODY_BYTES (flat_map update_bytes b.updates)

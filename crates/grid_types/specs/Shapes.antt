@@ -1,5 +1,5 @@
 -- The shape of a file, and where its pages stand.
-use Rattle.std.specs.Prelude.{ℕ, ◌≤◌, ◌+◌, ◌*◌, ◌/◌, ◌%◌, Bool, ◌&&◌, nat_le}
+use Rattle.std.specs.Prelude.{ℕ, ◌≤◌, ◌+◌, ◌-◌, ◌*◌, ◌/◌, ◌%◌, Bool, ◌&&◌, nat_le}
 use Rattle.grid_types.specs.declared.shape.Shape.{Shape}
 use Rattle.grid_types.specs.declared.sizes.TheConstants.{PAGE_BYTES, HEAD_BYTES, WORDS_ON_PAGE, MOST_ATTRIBUTES, LEAST_RECORDS, MOST_RECORDS, FEWEST_PAGES, MOST_PAGES, MOST_SLOTS, MOST_BOUNDARIES, MOST_CELLS}
 
@@ -23,9 +23,13 @@ has_lawful_bounds s = is_from_to 1 MOST_BOUNDARIES s.boundaries && is_from_to 1 
 unfoldable pub is_shape : Shape → Bool
 is_shape s = has_lawful_buckets s && (has_lawful_pages s && has_lawful_bounds s)
 
+-- how many pages so many numbers of four bytes fill
+abbrev pub word_pages : ℕ → ℕ
+word_pages n = (n + (WORDS_ON_PAGE - 1)) / WORDS_ON_PAGE
+
 -- the pages of a table area: two for each of four scales, one for the directory's list, and one for each thousand bucket numbers
 abbrev pub area_pages : Shape → ℕ
-area_pages s = 9 + (s.pages + 999) / 1000
+area_pages s = 9 + word_pages s.pages
 
 -- a file has two header pages, two table areas, two halves of a gate page and slots, and the data pages
 unfoldable pub file_pages : Shape → ℕ

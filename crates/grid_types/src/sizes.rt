@@ -38,8 +38,11 @@ pub const MOST_RECORDS: usize = 48;
 /// The bytes of an update on a slot page: 16 for its kind, its note and the length of its data, and then key and data.
 pub const UPDATE_BYTES: usize = 96;
 
+/// The most clients of a script.
+pub const MOST_CLIENTS: usize = 16;
+
 /// The most updates of a batch, one for each client.
-pub const MOST_UPDATES: usize = 16;
+pub const MOST_UPDATES: usize = MOST_CLIENTS;
 
 /// The least capacity of a bucket: one record for each part of a cut.
 pub const LEAST_RECORDS: usize = 2;
