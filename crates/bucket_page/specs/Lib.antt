@@ -1,5 +1,5 @@
-pub mod Spelling
+pub mod Buckets
 pub mod Lawful
 pub mod Reading
-pub mod Place
+pub mod Search
 pub mod Laws

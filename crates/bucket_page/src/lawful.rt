@@ -1,7 +1,7 @@
 //! Whether the fields of a bucket are lawful.
 ghost use Rattle.std.specs.Prelude.{◌<◌, ◌≤◌, ◌↔◌, ℕ, IsTrue, slice_index};
-ghost use Rattle.bucket_page.specs.Spelling.{AllInside, Ascends};
-ghost use Rattle.bucket_page.specs.Lawful.{IsLawful};
+ghost use Rattle.bucket_page.specs.Buckets.{AllInside, Ascends};
+ghost use Rattle.bucket_page.specs.Lawful.{AreLawfulFields};
 
 use crate::Bucket;
 use grid_types::{Record, Region};
@@ -42,7 +42,7 @@ fn ascends<const K: usize>(rows: &[Record<K>]) -> bool
 
 /// Whether the fields of the bucket are lawful, beside the ranges of their types.
 pub fn is_lawful<const K: usize>(bucket: &Bucket<K>) -> bool
-    ensures { IsTrue result ↔ IsLawful bucket.now }
+    ensures { IsTrue result ↔ AreLawfulFields bucket.now }
 {
     (bucket.turn as usize) < K
         && is_ordered(&bucket.region)

@@ -4,12 +4,12 @@
 mod bucket;
 mod lawful;
 mod laws;
-mod place;
 mod reading;
+mod search;
 mod table;
 mod writing;
 
-pub use bucket::Bucket;
+pub use bucket::{Bucket, MOST_IN_MEMORY};
 pub use laws::spelling_law;
 pub use reading::decode;
 pub use writing::encode;

@@ -1,49 +1,57 @@
 //! The page of a bucket.
 ghost use Rattle.std.specs.Prelude.{◌≡◌, ◌≤◌, ◌+◌, ◌++◌, take};
 ghost use Rattle.arrayvec.specs.ArrayVec.{array_vec_len};
-ghost use Rattle.grid_model.specs.Spellings.{record_bytes};
-ghost use Rattle.bucket_page.specs.Spelling.{head, spelling, IsBucket, Spells};
+ghost use Rattle.grid_types.specs.declared.sizes.TheConstants.{HEAD_BYTES, MOST_ATTRIBUTES, MOST_RECORDS, PAGE_BYTES, RECORD_BYTES};
+ghost use Rattle.grid_model.specs.Spellings.{record_bytes, bucket_head, bucket_spelling};
+ghost use Rattle.grid_model.specs.Buckets.{IsBucket, SpellsBucket};
+ghost use Rattle.bucket_page.specs.Buckets.{bucket_of};
 
 use crate::Bucket;
-use grid_types::Record;
+use grid_types::{DATA_AT, HEAD_BYTES, KEY_BYTES, PAGE_BYTES, RECORD_BYTES, Record};
 use page_fields::{put_bytes, put_corner, put_zeros, set_u16, set_u32};
 
-fn put_row<const K: usize>(page: &mut [u8; 4096], at: usize, row: &Record<K>)
-    requires room { at + 80 ≤ 4096 }
-    requires few { K ≤ 4 }
-    ensures front { take (at + 80) page.new ≡ take at page.old ++ record_bytes row.now }
+fn put_row<const K: usize>(page: &mut [u8; PAGE_BYTES], at: usize, row: &Record<K>)
+    requires room { at + RECORD_BYTES ≤ PAGE_BYTES }
+    requires few { K ≤ MOST_ATTRIBUTES }
+    ensures front { take (at + RECORD_BYTES) page.new ≡ take at page.old ++ record_bytes row.now }
 {
     let bytes = row.value.bytes();
     put_corner(page, at, &row.key.numbers);
-    put_bytes(page, at + 32, &[bytes.len() as u8]);
-    put_bytes(page, at + 33, bytes);
-    put_zeros(page, at + 33 + bytes.len(), at + 80);
+    let from = at + DATA_AT;
+    put_bytes(page, at + KEY_BYTES, &[bytes.len() as u8]);
+    put_bytes(page, from, bytes);
+    put_zeros(page, from + bytes.len(), at + RECORD_BYTES);
 }
 
-fn put_head<const K: usize>(page: &mut [u8; 4096], bucket: &Bucket<K>)
-    requires few { K ≤ 4 }
-    ensures front { take 96 page.new ≡ head K bucket.now }
+fn put_head<const K: usize>(page: &mut [u8; PAGE_BYTES], bucket: &Bucket<K>)
+    requires few { K ≤ MOST_ATTRIBUTES }
+    ensures front { take HEAD_BYTES page.new ≡ bucket_head (bucket_of bucket.now) }
 {
     put_bytes(page, 0, b"GFB1");
     set_u32(page, 4, bucket.number);
     set_u16(page, 8, bucket.rows.len() as u16);
     put_bytes(page, 10, &[bucket.turn, K as u8, 0, 0, 0, 0]);
     put_corner(page, 16, &bucket.region.lo);
-    put_corner(page, 48, &bucket.region.hi);
-    put_zeros(page, 80, 96);
+    put_corner(page, 16 + KEY_BYTES, &bucket.region.hi);
+    put_zeros(page, 16 + 2 * KEY_BYTES, HEAD_BYTES);
 }
 
 /// Makes `page` the page of the bucket, whatever it was before.
-pub fn encode<const K: usize>(bucket: &Bucket<K>, capacity: u16, page: &mut [u8; 4096])
-    requires few { K ≤ 4 }
-    requires lawful { capacity ≤ 48 }
+pub fn encode<const K: usize>(bucket: &Bucket<K>, capacity: u16, page: &mut [u8; PAGE_BYTES])
+    requires few { K ≤ MOST_ATTRIBUTES }
+    requires lawful { capacity ≤ MOST_RECORDS }
     requires fits { array_vec_len bucket.now.rows ≤ capacity }
-    ensures written { page.new ≡ spelling K bucket.now }
-    ensures spelled { IsBucket K capacity bucket.now → Spells K capacity page.new bucket.now }
+    ensures written { page.new ≡ bucket_spelling (bucket_of bucket.now) }
+    ensures spelled { IsBucket capacity (bucket_of bucket.now)
+        → SpellsBucket capacity page.new (bucket_of bucket.now) }
 {
     put_head(page, bucket);
     for (i, row) in bucket.rows.as_slice().iter().enumerate() {
-        put_row(page, 96 + 80 * i, row);
+        put_row(page, HEAD_BYTES + RECORD_BYTES * i, row);
     }
-    put_zeros(page, 96 + 80 * bucket.rows.len(), 4096);
+    put_zeros(
+        page,
+        HEAD_BYTES + RECORD_BYTES * bucket.rows.len(),
+        PAGE_BYTES,
+    );
 }

@@ -19,8 +19,8 @@ use Rattle.grid_model.specs.Cells.{parts}
 use Rattle.grid_model.specs.Layouts.{BucketBox, Layout, box, holder, records_inside, directory_part, IsSound}
 use Rattle.grid_model.specs.Notes.{updated_key, after_note, IsLawfulNote}
 use Rattle.grid_model.specs.Lone.{State, opened, free, renewed, published, record_of, how_many}
-use Rattle.grid_model.specs.Spellings.{shape_bytes, RootFields, root_bytes, scale_spelling, list_spelling, bucket_table_spelling, directory_spelling, bucket_spelling, gate_spelling, LoggedBatch, slot_spelling}
-use Rattle.grid_model.specs.Buckets.{BucketOf, SpellsBucket}
+use Rattle.grid_model.specs.Spellings.{shape_bytes, RootFields, root_bytes, scale_spelling, list_spelling, bucket_table_spelling, directory_spelling, BucketOf, gate_spelling, LoggedBatch, slot_spelling}
+use Rattle.grid_model.specs.Buckets.{SpellsBucket}
 use Rattle.grid_model.specs.Lawful.{IsData, IsRootOn, Area, IsAreaOf, IsBatch, nowhere}
 
 -- an image is a file of a shape with K attributes: both header pages begin with the shape, and all pages are there

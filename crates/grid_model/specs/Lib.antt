@@ -5,7 +5,6 @@ pub mod Scales
 pub mod Cells
 pub mod Layouts
 pub mod Cuts
-pub mod Candidates
 pub mod Neighbours
 pub mod Notes
 pub mod Lone

@@ -4,7 +4,6 @@ use Rattle.std.specs.List.{flat_map}
 use Rattle.grid_types.specs.declared.sizes.TheConstants.{HEAD_BYTES, BODY_BYTES, KEY_BYTES, DATA_ROOM, LONGEST_DATA, UPDATE_BYTES}
 use Rattle.page_fields.specs.Fields.{bytes_of}
 use Rattle.page_fields.specs.Padded.{padded, numbers, words_of}
-use Rattle.grid_types.specs.declared.region.Region.{Region}
 use Rattle.grid_types.specs.declared.shape.Shape.{Shape}
 use Rattle.grid_types.specs.declared.update.Record.{Record}
 use Rattle.grid_types.specs.declared.update.Update.{Update}
@@ -12,6 +11,7 @@ use Rattle.grid_types.specs.declared.update.Update.TheVariants.{Put, Remove}
 use Rattle.grid_types.specs.declared.layout_change.LayoutChange.{LayoutChange}
 use Rattle.grid_types.specs.declared.layout_change.LayoutChange.TheVariants as note
 use Rattle.grid_types.specs.declared.layout_change.LoggedUpdate.{LoggedUpdate}
+use Rattle.grid_model.specs.Layouts.{BucketBox}
 use Rattle.grid_model.specs.Notes.{updated_key}
 
 -- a page is a head and a body, both filled up with zeros
@@ -60,13 +60,20 @@ directory_spelling part cells = page (codes "GFD1" ++ (bytes_of 4 part ++ bytes_
 unfoldable pub record_bytes : {K : ℕ} → Record K → List ℕ
 record_bytes r = padded KEY_BYTES (numbers r.key.numbers) ++ (length r.value ∷ padded DATA_ROOM r.value)
 
+-- what a bucket page says: its number, its box and its records
+pub record BucketOf (K : ℕ) : Type 0 where
+  pub number : ℕ
+  pub box : BucketBox K
+  pub rows : List (Record K)
+
 -- the head of a bucket page: the kind, the bucket's number, how many records, turn and arity, and the two corners of the region
-unfoldable pub bucket_head : (K : ℕ) → ℕ → ℕ → ℕ → Region K → List ℕ
-bucket_head K number count turn region = codes "GFB1" ++ (bytes_of 4 number ++ (bytes_of 2 count ++ (turn ∷ K ∷ 0 ∷ 0 ∷ 0 ∷ 0 ∷ (padded KEY_BYTES (numbers region.lo) ++ (padded KEY_BYTES (numbers region.hi) ++ replicate 16 0)))))
+unfoldable pub bucket_head : {K : ℕ} → BucketOf K → List ℕ
+bucket_head {K} b = codes "GFB1" ++ (bytes_of 4 b.number ++ (bytes_of 2 (length b.rows) ++ (b.box.turn ∷ K ∷ 0 ∷ 0 ∷ 0 ∷ 0
+    ∷ (padded KEY_BYTES (numbers b.box.region.lo) ++ (padded KEY_BYTES (numbers b.box.region.hi) ++ replicate 16 0)))))
 
 -- a bucket page is the head, and the records one after the other, filled up with zeros
-unfoldable pub bucket_spelling : (K : ℕ) → ℕ → ℕ → Region K → List (Record K) → List ℕ
-bucket_spelling K number turn region rows = bucket_head K number (length rows) turn region ++ padded BODY_BYTES (flat_map record_bytes rows)
+unfoldable pub bucket_spelling : {K : ℕ} → BucketOf K → List ℕ
+bucket_spelling b = bucket_head b ++ padded BODY_BYTES (flat_map record_bytes b.rows)
 
 -- a gate page: the half of the journal, and the gate of each slot
 unfoldable pub gate_spelling : ℕ → List ℕ → List ℕ

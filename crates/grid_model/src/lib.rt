@@ -9,7 +9,7 @@ mod scales;
 mod scripts;
 mod tables;
 
-pub use cuts::{Candidate, best, cut_law, least_law};
+pub use cuts::{cut_law, least_law};
 pub use layouts::{layout_law, region_law, unused_law};
 pub use lone::lone_law;
 pub use merging::merge_law;

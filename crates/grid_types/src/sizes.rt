@@ -28,8 +28,11 @@ pub const LONGEST_DATA: usize = 40;
 /// The bytes that a bucket's page has for the data of a record.
 pub const DATA_ROOM: usize = 47;
 
-/// The bytes of a record on a bucket's page: its key, a byte for the length of its data, and the data.
-pub const RECORD_BYTES: usize = KEY_BYTES + 1 + DATA_ROOM;
+/// Where the data of a record begin on a bucket's page: behind its key and a byte for their length.
+pub const DATA_AT: usize = KEY_BYTES + 1;
+
+/// The bytes of a record on a bucket's page.
+pub const RECORD_BYTES: usize = DATA_AT + DATA_ROOM;
 
 /// The largest capacity of a bucket. BODY_BYTES / RECORD_BYTES records have room on a page, 50 of them: a full bucket, the
 /// one that it takes before it is cut, and one to spare.

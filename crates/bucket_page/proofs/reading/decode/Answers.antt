@@ -2,10 +2,11 @@ use Rattle.std.proofs.Common.{◌<◌, ◌∙◌, length, refl, ap, sym, subst, 
 use Rattle.std.proofs.lemmas.Bool.{false≢true}
 use Rattle.grid_types.specs.declared.update.Record.{Record}
 use Rattle.bucket_page.specs.declared.bucket.Bucket.{Bucket}
-use Rattle.bucket_page.specs.Spelling.{spelling}
-use Rattle.bucket_page.specs.Lawful.{IsLawful}
+use Rattle.grid_model.specs.Spellings.{bucket_spelling}
+use Rattle.bucket_page.specs.Buckets.{bucket_of}
+use Rattle.bucket_page.specs.Lawful.{AreLawfulFields}
 use Rattle.bucket_page.specs.Reading.{BucketAt}
-use Rattle.bucket_page.proofs.Standing.{bucket_there, one_bucket, made, lawful_of}
+use Rattle.bucket_page.proofs.Standing.{bucket_there, one_bucket, lawful_as_read, lawful_fields}
 use Rattle.bucket_page.proofs.reading.decode.Goals as goal
 
 pub returns-then-count-capacity-clause-none : goal.returns-then-count-capacity-clause-none
@@ -36,7 +37,7 @@ returns-then-is_spelled-clause-found g c =
       rows = c.read_rows.ensures.found ok;
     } in
     record {
-      lawful = made g.row.K c.args.capacity c.args.page.now b read (omega (arith, c.read_rows.ensures.count ok, c.if-count-capacity.false)) (c.is_spelled.ensures.lawful yes);
+      lawful = lawful_as_read g.row.K c.args.capacity c.args.page.now b read (omega (arith, c.read_rows.ensures.count ok, c.if-count-capacity.false)) (c.is_spelled.ensures.lawful yes);
       bytes = c.is_spelled.ensures.bytes yes;
     }
 
@@ -67,5 +68,5 @@ returns-else-is_spelled-clause-none g c = λ b s.
       count = c.read_rows.ensures.count ok ∙ c.get_u16-count.ensures;
       rows = c.read_rows.ensures.found ok;
     }) in
-    let yes = c.is_spelled.ensures.all (subst IsLawful (sym same) (lawful_of g.row.K c.args.capacity b s.lawful)) (s.bytes ∙ ap (spelling g.row.K) (sym same)) in
+    let yes = c.is_spelled.ensures.all (subst AreLawfulFields (sym same) (lawful_fields g.row.K c.args.capacity b s.lawful)) (s.bytes ∙ ap (λ (x : Bucket g.row.K). bucket_spelling (bucket_of x)) (sym same)) in
     false≢true (sym c.if-is_spelled.false ∙ yes)
