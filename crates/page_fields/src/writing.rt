@@ -3,9 +3,9 @@
 ghost use Rattle.std.specs.Prelude.{◌≡◌, ◌≤◌, ◌+◌, ◌-◌, ◌*◌, ◌++◌, length, replicate, take};
 ghost use Rattle.page_fields.specs.Fields.{replaced};
 ghost use Rattle.page_fields.specs.Padded.{numbers, padded, words_of};
-ghost use Rattle.grid_types.specs.declared.sizes.TheConstants.{PAGE_BYTES};
+ghost use Rattle.grid_types.specs.declared.sizes.TheConstants.{KEY_BYTES, MOST_ATTRIBUTES, PAGE_BYTES};
 
-use grid_types::PAGE_BYTES;
+use grid_types::{KEY_BYTES, PAGE_BYTES};
 use crate::{set_u32, set_u64};
 
 /// Writes these bytes at an offset.
@@ -27,17 +27,17 @@ pub fn put_zeros(page: &mut [u8; PAGE_BYTES], from: usize, to: usize)
     page[from..to].fill(0);
 }
 
-/// Writes a corner into 32 bytes: its numbers, and zeros behind them.
+/// Writes a corner into `KEY_BYTES` bytes: its numbers, and zeros behind them.
 pub fn put_corner<const K: usize>(page: &mut [u8; PAGE_BYTES], at: usize, corner: &[u64; K])
-    requires room { at + 32 ≤ PAGE_BYTES }
-    requires few { K ≤ 4 }
-    ensures written { page.new ≡ replaced at (padded 32 (numbers corner.now)) page.old }
-    ensures front { take (at + 32) page.new ≡ take at page.old ++ padded 32 (numbers corner.now) }
+    requires room { at + KEY_BYTES ≤ PAGE_BYTES }
+    requires few { K ≤ MOST_ATTRIBUTES }
+    ensures written { page.new ≡ replaced at (padded KEY_BYTES (numbers corner.now)) page.old }
+    ensures front { take (at + KEY_BYTES) page.new ≡ take at page.old ++ padded KEY_BYTES (numbers corner.now) }
 {
     for a in 0..K {
         set_u64(page, at + 8 * a, corner[a]);
     }
-    put_zeros(page, at + 8 * K, at + 32);
+    put_zeros(page, at + 8 * K, at + KEY_BYTES);
 }
 
 /// Writes numbers of four bytes, one behind the other.
