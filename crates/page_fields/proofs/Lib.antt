@@ -6,3 +6,4 @@ pub mod Parts
 pub mod Places
 pub mod Steps
 pub mod ZeroParts
+pub mod Series

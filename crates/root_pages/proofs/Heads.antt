@@ -1,7 +1,7 @@
 -- The head of a page of a table area, and the page that it begins.
 use Rattle.std.proofs.Common.{◌≡◌, ◌-◌, ℕ, List, ◌∷◌, ◌++◌, length, codes, replicate, refl, ap, sym, ◌∙◌, append_assoc, length-append, arith}
 use Rattle.page_fields.specs.Fields.{bytes_of}
-use Rattle.page_fields.specs.Padded.{padded, numbers, words_of}
+use Rattle.page_fields.specs.Padded.{padded, numbers}
 use Rattle.page_fields.proofs.BytesOf.{length-bytes_of, length-padded}
 use Rattle.grid_model.specs.Spellings.{area_head, scale_spelling, list_spelling, bucket_table_spelling}
 use Rattle.root_pages.specs.Areas.{entries_page}
@@ -37,9 +37,9 @@ unfolding scale_spelling entries_page numbers
 scale_is root index entries = refl
 
 pub list_is : (root index : ℕ) (entries : List ℕ) → list_spelling root index entries ≡ entries_page 4 (codes "GFL1") root index entries
-unfolding list_spelling entries_page words_of
+unfolding list_spelling entries_page numbers
 list_is root index entries = refl
 
 pub table_is : (root index : ℕ) (entries : List ℕ) → bucket_table_spelling root index entries ≡ entries_page 4 (codes "GFT1") root index entries
-unfolding bucket_table_spelling entries_page words_of
+unfolding bucket_table_spelling entries_page numbers
 table_is root index entries = refl

@@ -3,8 +3,8 @@ use Rattle.std.proofs.Common.{◌≡◌, ◌<◌, ◌≤◌, ◌+◌, ◌-◌, �
 use Rattle.std.specs.List.{flat_map}
 use Rattle.std.proofs.lemmas.List.{take-append-drop, drop-drop, same_lists, get_or_default}
 use Rattle.page_fields.specs.Fields.{number, bytes_of}
-use Rattle.page_fields.specs.Padded.{padded, words_of}
-use Rattle.page_fields.proofs.BytesOf.{number-back, length-bytes_of, length-padded, length-words}
+use Rattle.page_fields.specs.Padded.{padded, numbers}
+use Rattle.page_fields.proofs.BytesOf.{number-back, length-bytes_of, length-padded, length-numbers}
 use Rattle.page_fields.proofs.Entries.{entry_there}
 use Rattle.page_fields.proofs.Places.{behind}
 use Rattle.grid_model.specs.Spellings.{RootFields, root_bytes}
@@ -12,8 +12,8 @@ use Rattle.root_pages.specs.Headers.{AreInRange}
 use Rattle.root_pages.specs.Reading.{FieldsAt}
 
 -- numbers of four bytes with zeros behind them, from a known offset on
-words_there : (at n : ℕ) (page ns rest : List ℕ) → drop at page ≡ padded n (words_of ns) ++ rest → ((i : ℕ) → slice_index ns i < 2 ^ 32) → (i : ℕ) → i < length ns → slice_index ns i ≡ number 4 (drop (at + 4 * i) page)
-unfolding padded words_of
+words_there : (at n : ℕ) (page ns rest : List ℕ) → drop at page ≡ padded n (numbers 4 ns) ++ rest → ((i : ℕ) → slice_index ns i < 2 ^ 32) → (i : ℕ) → i < length ns → slice_index ns i ≡ number 4 (drop (at + 4 * i) page)
+unfolding padded numbers
 words_there at n page ns rest e fits i lt =
     let zeros = replicate (n - length (flat_map (bytes_of 4) ns)) 0 in
     entry_there 4 at page ns (zeros ++ rest) (e ∙ append_assoc (flat_map (bytes_of 4) ns) zeros rest) fits i lt
@@ -26,7 +26,7 @@ module _ (at : ℕ) (page : List ℕ) (r : RootFields) (rest : List ℕ) (is : d
   from48 = bytes_of 4 r.parts ++ from52
 
   abbrev from32 : List ℕ
-  from32 = padded 16 (words_of r.boundaries) ++ from48
+  from32 = padded 16 (numbers 4 r.boundaries) ++ from48
 
   abbrev from24 : List ℕ
   from24 = bytes_of 8 r.records ++ from32
@@ -60,8 +60,8 @@ module _ (at : ℕ) (page : List ℕ) (r : RootFields) (rest : List ℕ) (is : d
   -- the numbers stand where they are spelled
   pub fields_there : (K : ℕ) → K ≤ 4 → AreInRange K r → FieldsAt at page r
   fields_there K few fit =
-      let sixteen : length (padded 16 (words_of r.boundaries)) ≡ 16 = length-padded 16 (words_of r.boundaries) (omega (arith, length-words r.boundaries, fit.attributes, few)) in
-      let at48 : drop (at + 48) page ≡ from48 = behind (at + 32) 16 (at + 48) page (padded 16 (words_of r.boundaries)) _ at32 sixteen (omega arith) in
+      let sixteen : length (padded 16 (numbers 4 r.boundaries)) ≡ 16 = length-padded 16 (numbers 4 r.boundaries) (omega (arith, length-numbers 4 r.boundaries, fit.attributes, few)) in
+      let at48 : drop (at + 48) page ≡ from48 = behind (at + 32) 16 (at + 48) page (padded 16 (numbers 4 r.boundaries)) _ at32 sixteen (omega arith) in
       let at52 : drop (at + 52) page ≡ from52 = behind (at + 48) 4 (at + 52) page (bytes_of 4 r.parts) _ at48 (length-bytes_of 4 r.parts) (omega arith) in
       record {
         number_is = number_there fit.number;

@@ -2,7 +2,7 @@
 ghost use Rattle.std.specs.Prelude.{◌≡◌, ◌≤◌, ◌+◌, ◌-◌, ◌*◌, ◌++◌, replicate, IsTrue, slice_index, take};
 ghost use Rattle.grid_types.specs.Shapes.{is_shape};
 ghost use Rattle.page_fields.specs.Fields.{bytes_of};
-ghost use Rattle.page_fields.specs.Padded.{padded, words_of};
+ghost use Rattle.page_fields.specs.Padded.{padded, numbers};
 ghost use Rattle.grid_model.specs.Spellings.{shape_bytes, root_bytes};
 ghost use Rattle.root_pages.specs.Fields.{fields_of};
 
@@ -56,7 +56,7 @@ fn clear(bytes: &mut [u8; 56], from: usize, to: usize)
 /// Writes how many boundaries each scale has, and zeros for the scales that there are not.
 fn put_counts<const K: usize>(bytes: &mut [u8; 56], counts: &[u32; K])
     requires { K ≤ 4 }
-    ensures { take 48 bytes.new ≡ take 32 bytes.old ++ padded 16 (words_of counts.now) }
+    ensures { take 48 bytes.new ≡ take 32 bytes.old ++ padded 16 (numbers 4 counts.now) }
 {
     for a in 0..K {
         put_u32(bytes, 32 + 4 * a, counts[a]);

@@ -1,26 +1,15 @@
-use Rattle.std.proofs.Common.{◌≡◌, ◌∙◌, ◌+◌, ◌*◌, ap, sym, length, arith, take, List, ℕ}
-use Rattle.std.proofs.lemmas.List.{take_all, length-take-le}
-use Rattle.page_fields.specs.Fields.{replaced}
-use Rattle.page_fields.specs.Padded.{numbers}
-use Rattle.page_fields.proofs.BytesOf.{numbers_none, numbers_more, length-numbers}
-use Rattle.page_fields.proofs.Parts.{replaced_none, replaced_more, front_of}
+use Rattle.std.proofs.Common.{◌*◌, refl, arith}
+use Rattle.page_fields.proofs.Series.{none-written, next-written, all-written, front-written}
 use Rattle.page_fields.proofs.writing.put_numbers.Goals as goal
 
 pub loop-i-init : goal.loop-i-init
-loop-i-init c = sym (replaced_none c.args.at c.args.page.now) ∙ ap (λ (xs : List ℕ). replaced c.args.at xs c.args.page.now) (sym numbers_none)
+loop-i-init c = none-written 8 c.args.at c.args.words.now c.args.page.now
 
 pub loop-i-preserved : goal.loop-i-preserved
-loop-i-preserved c =
-    let lt = c.loop-i-test.true in
-    let long : length (take c.loop-i.i c.args.words.now) ≡ c.loop-i.i = length-take-le c.loop-i.i c.args.words.now (omega arith) in
-    replaced_more c.args.at (c.args.at + 8 * c.loop-i.i) c.args.page.now c.loop-i.page _ _ _ c.loop-i.invariant c.set_u64.ensures.written (omega (arith, length-numbers (take c.loop-i.i c.args.words.now))) (omega (arith, c.told-page))
-    ∙ ap (λ (xs : List ℕ). replaced c.args.at xs c.args.page.now) (numbers_more c.args.words.now c.loop-i.i 0 (omega arith))
+loop-i-preserved c = next-written 8 c.args.at c.args.words.now c.args.page.now c.loop-i.i (8 * c.loop-i.i) c.loop-i.page _ c.loop-i-test.true (omega (arith, c.told-page)) refl c.loop-i.invariant c.set_u64.ensures.written
 
 pub returns-clause-written : goal.returns-clause-written
-returns-clause-written c =
-    let all : take c.loop-i.i c.args.words.now ≡ c.args.words.now = take_all _ _ (omega (arith, c.loop-i-test.false)) in
-    c.loop-i.invariant ∙ ap (λ (xs : List ℕ). replaced c.args.at (numbers xs) c.args.page.now) all
+returns-clause-written c = all-written 8 c.args.at c.args.words.now c.args.page.now c.loop-i.i c.loop-i.page (omega (arith, c.loop-i-test.false)) c.loop-i.invariant
 
 pub returns-clause-front : goal.returns-clause-front
-returns-clause-front c =
-    front_of c.args.at (8 * length c.args.words.now) c.args.page.now _ (numbers c.args.words.now) (returns-clause-written c) (length-numbers c.args.words.now) (omega (arith, c.told-page))
+returns-clause-front c = front-written 8 c.args.at c.args.words.now c.args.page.now _ (omega (arith, c.told-page)) (returns-clause-written c)
