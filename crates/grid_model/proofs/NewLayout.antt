@@ -3,6 +3,7 @@ use Rattle.std.proofs.Common.{◌≡◌, ◌<◌, ◌≤◌, ◌^◌, ℕ, zero,
 use Rattle.std.proofs.lemmas.List.{length-replicate, get_or-replicate, get_or_past}
 use Rattle.std.specs.Ordering.{eq_by_cmp}
 use lib.Pointwise.{pointwise}
+use Rattle.grid_types.specs.declared.sizes.TheConstants.{LEAST_RECORDS, MOST_RECORDS, MOST_ATTRIBUTES}
 use Rattle.grid_types.specs.declared.shape.Shape.{Shape}
 use Rattle.grid_types.specs.Keys.{IsKey}
 use Rattle.grid_types.specs.Regions.{contains, IsRegion}
@@ -30,7 +31,7 @@ unfolding is_shape
 has-leasts s e =
     let rest : (has_lawful_pages s && has_lawful_bounds s) ≡ true = second (has_lawful_buckets s) (has_lawful_pages s && has_lawful_bounds s) e in
     record {
-      attributes = at_least 1 4 s.k (first (is_from_to 1 4 s.k) (is_from_to 2 48 s.capacity) (first (has_lawful_buckets s) (has_lawful_pages s && has_lawful_bounds s) e));
+      attributes = at_least 1 MOST_ATTRIBUTES s.k (first (is_from_to 1 MOST_ATTRIBUTES s.k) (is_from_to LEAST_RECORDS MOST_RECORDS s.capacity) (first (has_lawful_buckets s) (has_lawful_pages s && has_lawful_bounds s) e));
       pages = at_least 8 65536 s.pages (first (is_from_to 8 65536 s.pages) (is_from_to 1 4000 s.slots) (first (has_lawful_pages s) (has_lawful_bounds s) rest));
       cells = at_least 1 1000000 s.cells (second (is_from_to 1 1000 s.boundaries) (is_from_to 1 1000000 s.cells) (second (has_lawful_pages s) (has_lawful_bounds s) rest));
     }

@@ -1,6 +1,7 @@
 -- Where the pages of a file lie: apart from one another, and inside the file.
 use Rattle.std.proofs.Common.{◌≡◌, ◌≢◌, ◌<◌, ◌≤◌, ◌⊎◌, inl, inr, ◌+◌, ◌*◌, ℕ, zero, suc, true, ◌&&◌, nat_le, IsTrue, refl, arith, leb-true}
 use Rattle.grid_types.specs.declared.shape.Shape.{Shape}
+use Rattle.grid_types.specs.declared.sizes.TheConstants.{MOST_ATTRIBUTES, LEAST_RECORDS, MOST_RECORDS, FEWEST_PAGES, MOST_PAGES, MOST_SLOTS, MOST_BOUNDARIES, MOST_CELLS}
 use Rattle.grid_types.specs.Shapes.{is_shape, is_from_to, has_lawful_buckets, has_lawful_pages, has_lawful_bounds, IsWithinLimits, area_pages, file_pages, table_page, gate_page, slot_page, data_page, slot_gate_at}
 use Rattle.grid_types.proofs.Numbers.{first, second}
 
@@ -15,12 +16,12 @@ within-limits s e =
     let rest = second (has_lawful_buckets s) (has_lawful_pages s && has_lawful_bounds s) e in
     let pages = first (has_lawful_pages s) (has_lawful_bounds s) rest in
     let bounds = second (has_lawful_pages s) (has_lawful_bounds s) rest in
-    let k = between 1 4 s.k (first (is_from_to 1 4 s.k) (is_from_to 2 48 s.capacity) buckets) in
-    let capacity = between 2 48 s.capacity (second (is_from_to 1 4 s.k) (is_from_to 2 48 s.capacity) buckets) in
-    let data_pages = between 8 65536 s.pages (first (is_from_to 8 65536 s.pages) (is_from_to 1 4000 s.slots) pages) in
-    let slots = between 1 4000 s.slots (second (is_from_to 8 65536 s.pages) (is_from_to 1 4000 s.slots) pages) in
-    let boundaries = between 1 1000 s.boundaries (first (is_from_to 1 1000 s.boundaries) (is_from_to 1 1000000 s.cells) bounds) in
-    let cells = between 1 1000000 s.cells (second (is_from_to 1 1000 s.boundaries) (is_from_to 1 1000000 s.cells) bounds) in
+    let k = between 1 MOST_ATTRIBUTES s.k (first (is_from_to 1 MOST_ATTRIBUTES s.k) (is_from_to LEAST_RECORDS MOST_RECORDS s.capacity) buckets) in
+    let capacity = between LEAST_RECORDS MOST_RECORDS s.capacity (second (is_from_to 1 MOST_ATTRIBUTES s.k) (is_from_to LEAST_RECORDS MOST_RECORDS s.capacity) buckets) in
+    let data_pages = between FEWEST_PAGES MOST_PAGES s.pages (first (is_from_to FEWEST_PAGES MOST_PAGES s.pages) (is_from_to 1 MOST_SLOTS s.slots) pages) in
+    let slots = between 1 MOST_SLOTS s.slots (second (is_from_to FEWEST_PAGES MOST_PAGES s.pages) (is_from_to 1 MOST_SLOTS s.slots) pages) in
+    let boundaries = between 1 MOST_BOUNDARIES s.boundaries (first (is_from_to 1 MOST_BOUNDARIES s.boundaries) (is_from_to 1 MOST_CELLS s.cells) bounds) in
+    let cells = between 1 MOST_CELLS s.cells (second (is_from_to 1 MOST_BOUNDARIES s.boundaries) (is_from_to 1 MOST_CELLS s.cells) bounds) in
     record {
       some_attributes = k.0;
       few_attributes = k.1;
