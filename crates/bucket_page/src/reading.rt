@@ -84,7 +84,7 @@ pub fn decode<const K: usize>(page: &[u8; PAGE_BYTES], capacity: u16) -> Option<
         turn: page[10],
         region: Region {
             lo: get_corner(page, 16),
-            hi: get_corner(page, 48),
+            hi: get_corner(page, 16 + KEY_BYTES),
         },
         rows: ArrayVec::new(),
     };
