@@ -1,10 +1,12 @@
 //! A bay over the file system.
 ghost use Rattle.std.specs.Prelude.{◌≡◌, ◌≢◌, ◌*◌, ◌≤◌, false, IfOk};
+ghost use Rattle.grid_types.specs.declared.sizes.TheConstants.{PAGE_BYTES};
 ghost use Rattle.disk_trait.specs.Bay.{Absent};
 ghost use Rattle.disk_trait.specs.Causes.{Rose};
 
 use crate::FileDisk;
 use disk_trait::{Bay, BayFailed, Disk};
+use grid_types::PAGE_BYTES;
 use std::fs::{File, Files, OpenOptions};
 use std::{fs, io};
 
@@ -49,9 +51,10 @@ impl<R: Files<File = File> + Drop> FileBay<R> {
 
 /// Makes the file anew; a file that is there is left as it is. What could not be filled is taken away again.
 fn create_file<R: Files<File = File>>(files: &R, name: &str, pages: u64) -> io::Result<FileDisk>
-    ensures { IfOk result (λ d. (d.size ≡ pages * 4096) × (d.read_faults ≡ 0) × (d.write_faults ≡ 0)) }
+    ensures size { IfOk result (λ d. d.size ≡ pages * PAGE_BYTES) }
+    ensures unfailed { IfOk result (λ d. (d.read_faults ≡ 0) × (d.write_faults ≡ 0)) }
 {
-    let Some(size) = pages.checked_mul(4096) else {
+    let Some(size) = pages.checked_mul(PAGE_BYTES as u64) else {
         return Err(io::ErrorKind::InvalidInput.into());
     };
     let disk = FileDisk::new(File::create_new(files, name)?, size);

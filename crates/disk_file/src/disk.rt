@@ -3,6 +3,7 @@ ghost use Rattle.std.specs.Prelude.{◌≡◌, [], ⊤, false};
 ghost use Rattle.std.proofs.lemmas.Bool.{false≢true};
 
 use disk_trait::{Disk, DiskFailed, Steps};
+use grid_types::PAGE_BYTES;
 use std::fs::File;
 use std::io;
 use std::os::unix::fs::FileExt;
@@ -32,9 +33,10 @@ impl FileDisk {
 
     /// Writes the zeros out, page by page, so that the file has no holes, and puts them on the disk.
     pub(crate) fn fill(&self, pages: u64) -> io::Result<()> {
-        let zeros = [0; 4096];
+        let zeros = [0; PAGE_BYTES];
         for page in 0..pages {
-            self.file.write_all_at(&zeros, page.wrapping_mul(4096))?;
+            self.file
+                .write_all_at(&zeros, page.wrapping_mul(PAGE_BYTES as u64))?;
         }
         self.file.sync_all()
     }
@@ -72,11 +74,11 @@ impl Disk for FileDisk {
     fn read<L: Ledger>(
         &mut self,
         page: u64,
-        out: &mut [u8; 4096],
+        out: &mut [u8; PAGE_BYTES],
         steps: &mut Steps<L>,
     ) -> Result<(), DiskFailed> {
         steps.tick();
-        match self.file.read_exact_at(out, page * 4096) {
+        match self.file.read_exact_at(out, page * PAGE_BYTES as u64) {
             Ok(()) => Ok(()),
             Err(_) => {
                 self.read_faults = self.read_faults.saturating_add(1);

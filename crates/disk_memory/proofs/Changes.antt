@@ -2,21 +2,23 @@
 use Rattle.std.proofs.Common.{◌≡◌, ◌≤◌, ◌+◌, ◌⊎◌, inl, inr, ⊎_elim, ℕ, List, [], ◌∷◌, ◌++◌, length, map, refl, sym, ap, subst, ◌∙◌, arith}
 use Rattle.std.specs.Prelude.{Result, Ok, Err, OnOk, OnErr}
 use Rattle.std.proofs.lemmas.List.{take_all, take-append-le, length_push}
-use Rattle.disk_trait.specs.Disk.{Agrees, Holds, Elapses, Follows, Only}
-use Rattle.disk_trait.specs.Moments.{AgreesOutside}
+use Rattle.disk_trait.specs.Disk.{Agrees, Holds, Only}
+use Rattle.disk_trait.specs.Moments.{After, Always, AgreesOutside}
 use Rattle.disk_trait.proofs.Pages.{agrees_same}
 use Rattle.disk_memory.specs.declared.history.Event.{Event}
 use Rattle.disk_memory.specs.Events.{change_of}
-use Rattle.disk_memory.specs.Past.{Past, Held, Change, Written, Failed, Synced, turned, run, held, held_after, Leaves, HadBeen, with_change}
+use Rattle.disk_memory.specs.declared.memory.Memory.{Memory}
+use Rattle.disk_memory.specs.Memories.{TimeGoesOn}
+use Rattle.disk_memory.specs.Past.{Past, Contents, Change, Written, Failed, Synced, turned, run, contents_now, contents_after, Leaves, HadBeen, with_change}
 use Rattle.disk_memory.proofs.Ranges.{holds_agrees, torn, outside_nothing, outside_any}
 
-run_push : (h : Held) (changes : List Change) (e : Change) → run h (changes ++ e ∷ []) ≡ turned (run h changes) e
+run_push : (h : Contents) (changes : List Change) (e : Change) → run h (changes ++ e ∷ []) ≡ turned (run h changes) e
 run_push h [] e = refl
 run_push h (f ∷ fs) e = run_push (turned h f) fs e
 
 -- what is held after one change more
-pub held_push : (p q : Past) (e : Change) → q ≡ with_change p e → held q ≡ turned (held p) e
-held_push p q e is = ap held is ∙ run_push (record { bytes = p.first; dirty = [] }) p.changes e
+pub contents_push : (p q : Past) (e : Change) → q ≡ with_change p e → contents_now q ≡ turned (contents_now p) e
+contents_push p q e is = ap contents_now is ∙ run_push (record { bytes = p.first; dirty = [] }) p.changes e
 
 -- one event more is one change more
 pub changes_push : (events : List Event) (e : Event) → map change_of (events ++ e ∷ []) ≡ map change_of events ++ change_of e ∷ []
@@ -29,31 +31,35 @@ module _ (p : Past) (e : Change) where
     count = h.count;
     since = h.since;
     made = omega (arith, h.made, length_push p.changes e);
-    left = subst (λ es. Leaves (held_after p.first es) c) (sym (take-append-le h.count p.changes (e ∷ []) h.made)) h.left;
+    left = subst (λ es. Leaves (contents_after p.first es) c) (sym (take-append-le h.count p.changes (e ∷ []) h.made)) h.left;
   }
 
   by_count : (k n : ℕ) → k ≤ n + 1 → (k ≤ n) ⊎ (n + 1 ≤ k)
   by_count k n le = grind arith
 
-  nothing_else : (t : ℕ) (c : List ℕ) → HadBeen (with_change p e) t c → HadBeen p t c ⊎ Leaves (held (with_change p e)) c
+  nothing_else : (t : ℕ) (c : List ℕ) → HadBeen (with_change p e) t c → HadBeen p t c ⊎ Leaves (contents_now (with_change p e)) c
   nothing_else t c h =
       let made : h.count ≤ length p.changes + 1 = omega (arith, h.made, length_push p.changes e) in
       elim (by_count h.count (length p.changes) made) [
-        | inl le ↦ inl (record { count = h.count; since = h.since; made = le; left = subst (λ es. Leaves (held_after p.first es) c) (take-append-le h.count p.changes (e ∷ []) le) h.left })
-        | inr ge ↦ inr (subst (λ es. Leaves (held_after p.first es) c) (take_all h.count (p.changes ++ e ∷ []) (omega (arith, ge, length_push p.changes e))) h.left)
+        | inl le ↦ inl (record { count = h.count; since = h.since; made = le; left = subst (λ es. Leaves (contents_after p.first es) c) (take-append-le h.count p.changes (e ∷ []) le) h.left })
+        | inr ge ↦ inr (subst (λ es. Leaves (contents_after p.first es) c) (take_all h.count (p.changes ++ e ∷ []) (omega (arith, ge, length_push p.changes e))) h.left)
       ]
 
 -- time goes on by a change
-pub elapses_push : (p q : Past) (e : Change) → q ≡ with_change p e → Elapses (length p.changes) (length q.changes) (HadBeen p) (HadBeen q) (Leaves (held q))
-elapses_push p q e is = rw is (record {
-  later = omega (arith, length_push p.changes e);
-  nothing_else = λ t c le h. nothing_else p e t c h;
-  keeps = λ t c le h. kept p e t c h;
-})
+pub elapses_push : (m n : Memory) (e : Change) → n.history ≡ with_change m.history e → TimeGoesOn m n
+elapses_push m n e is = record {
+  later = omega (arith, ap (λ (p : Past). length p.changes) is, length_push m.history.changes e);
+  nothing_else = λ t c le. subst (λ q. HadBeen q t c → HadBeen m.history t c ⊎ Leaves (contents_now q) c) (sym is) (λ h. nothing_else m.history e t c h);
+  keeps = λ t c le h. subst (λ q. HadBeen q t c) (sym is) (kept m.history e t c h);
+}
 
 -- time goes on by nothing
-pub elapses_same : (p q : Past) → q ≡ p → Elapses (length p.changes) (length q.changes) (HadBeen p) (HadBeen q) (Leaves (held q))
-elapses_same p q is = rw is (record { later = omega arith; nothing_else = λ t c le h. inl h; keeps = λ t c le h. h })
+pub elapses_same : (m n : Memory) → n.history ≡ m.history → TimeGoesOn m n
+elapses_same m n is = record {
+  later = omega (arith, ap (λ (p : Past). length p.changes) is);
+  nothing_else = λ t c le h. inl (subst (λ q. HadBeen q t c) is h);
+  keeps = λ t c le h. subst (λ q. HadBeen q t c) (sym is) h;
+}
 
 -- the one fact or the other, by what a call returned
 pub either_way : {T E : Type 0} (A B : Type 0) (r : Result T E) → OnOk r A → OnErr r B → B ⊎ A
@@ -61,53 +67,53 @@ either_way A B (Ok x) a b = inr a
 either_way A B (Err x) a b = inl b
 
 -- time goes on by a change or by nothing
-pub elapses_either : (p q : Past) (e : Change) → (q ≡ p) ⊎ (q ≡ with_change p e) → Elapses (length p.changes) (length q.changes) (HadBeen p) (HadBeen q) (Leaves (held q))
-elapses_either p q e is = ⊎_elim (elapses_same p q) (elapses_push p q e) is
+pub elapses_either : (m n : Memory) (e : Change) → (n.history ≡ m.history) ⊎ (n.history ≡ with_change m.history e) → TimeGoesOn m n
+elapses_either m n e is = ⊎_elim (elapses_same m n) (elapses_push m n e) is
 
 module _ (p q : Past) (at : ℕ) (bytes : List ℕ) (is : q ≡ with_change p (Written at bytes)) where
-  pub written_holds : Holds (held p).bytes at bytes (held q).bytes
-  written_holds = ap (λ h. h.bytes) (held_push p q (Written at bytes) is)
+  pub written_holds : Holds (contents_now p).bytes at bytes (contents_now q).bytes
+  written_holds = ap (λ h. h.bytes) (contents_push p q (Written at bytes) is)
 
-  pub written_dirty : (held q).dirty ≡ (at, length bytes) ∷ (held p).dirty
-  written_dirty = ap (λ h. h.dirty) (held_push p q (Written at bytes) is)
+  pub written_dirty : (contents_now q).dirty ≡ (at, length bytes) ∷ (contents_now p).dirty
+  written_dirty = ap (λ h. h.dirty) (contents_push p q (Written at bytes) is)
 
-  pub written_agrees : at + length bytes ≤ length (held p).bytes → Agrees at (length bytes) (held p).bytes (held q).bytes
-  written_agrees le = holds_agrees (held p).bytes at bytes (held q).bytes le written_holds
+  pub written_agrees : at + length bytes ≤ length (contents_now p).bytes → Agrees at (length bytes) (contents_now p).bytes (contents_now q).bytes
+  written_agrees le = holds_agrees (contents_now p).bytes at bytes (contents_now q).bytes le written_holds
 
-  pub written_crash : at + length bytes ≤ length (held p).bytes → Follows (Agrees at (length bytes)) (Leaves (held p)) (Leaves (held q))
-  written_crash le c left = torn (held p).dirty at (length bytes) (held p).bytes (held q).bytes le (written_agrees le) c (subst (λ rs. AgreesOutside rs (held q).bytes c) written_dirty left)
+  pub written_crash : at + length bytes ≤ length (contents_now p).bytes → Always (Leaves (contents_now q)) (After (Agrees at (length bytes)) (Leaves (contents_now p)))
+  written_crash le c left = torn (contents_now p).dirty at (length bytes) (contents_now p).bytes (contents_now q).bytes le (written_agrees le) c (subst (λ rs. AgreesOutside rs (contents_now q).bytes c) written_dirty left)
 
   -- the bytes over which these are written are those that are held
-  pub written_over : (image over : List ℕ) → image ≡ (held p).bytes → Holds image at bytes over → over ≡ (held q).bytes
+  pub written_over : (image over : List ℕ) → image ≡ (contents_now p).bytes → Holds image at bytes over → over ≡ (contents_now q).bytes
   written_over image over i h = h ∙ rw i (sym written_holds)
 
 -- the bytes that are held after no change, or after one that leaves them
-pub same_bytes : (p q : Past) (e : Change) → ((h : Held) → (turned h e).bytes ≡ h.bytes) → (q ≡ p) ⊎ (q ≡ with_change p e) → (held q).bytes ≡ (held p).bytes
-same_bytes p q e leaves is = ⊎_elim (λ none. ap (λ r. (held r).bytes) none) (λ one. ap (λ h. h.bytes) (held_push p q e one) ∙ leaves (held p)) is
+pub same_bytes : (p q : Past) (e : Change) → ((h : Contents) → (turned h e).bytes ≡ h.bytes) → (q ≡ p) ⊎ (q ≡ with_change p e) → (contents_now q).bytes ≡ (contents_now p).bytes
+same_bytes p q e leaves is = ⊎_elim (λ none. ap (λ r. (contents_now r).bytes) none) (λ one. ap (λ h. h.bytes) (contents_push p q e one) ∙ leaves (contents_now p)) is
 
 module _ (p q : Past) (at n : ℕ) (is : (q ≡ p) ⊎ (q ≡ with_change p (Failed at n))) where
-  pub failed_same : (held q).bytes ≡ (held p).bytes
+  pub failed_same : (contents_now q).bytes ≡ (contents_now p).bytes
   failed_same = same_bytes p q (Failed at n) (λ h. refl) is
 
-  pub failed_dirty : ((held q).dirty ≡ (held p).dirty) ⊎ ((held q).dirty ≡ (at, n) ∷ (held p).dirty)
-  failed_dirty = ⊎_elim (λ none. inl (ap (λ r. (held r).dirty) none)) (λ one. inr (ap (λ h. h.dirty) (held_push p q (Failed at n) one))) is
+  pub failed_dirty : ((contents_now q).dirty ≡ (contents_now p).dirty) ⊎ ((contents_now q).dirty ≡ (at, n) ∷ (contents_now p).dirty)
+  failed_dirty = ⊎_elim (λ none. inl (ap (λ r. (contents_now r).dirty) none)) (λ one. inr (ap (λ h. h.dirty) (contents_push p q (Failed at n) one))) is
 
-  pub failed_crash : at + n ≤ length (held p).bytes → Follows (Agrees at n) (Leaves (held p)) (Leaves (held q))
+  pub failed_crash : at + n ≤ length (contents_now p).bytes → Always (Leaves (contents_now q)) (After (Agrees at n) (Leaves (contents_now p)))
   failed_crash le c left = ⊎_elim
-      (λ none. (c, subst (λ r. Leaves (held r) c) none left, agrees_same at n c))
-      (λ one. torn (held p).dirty at n (held p).bytes (held p).bytes le (agrees_same at n (held p).bytes) c (subst (λ h. Leaves h c) (held_push p q (Failed at n) one) left))
+      (λ none. (c, subst (λ r. Leaves (contents_now r) c) none left, agrees_same at n c))
+      (λ one. torn (contents_now p).dirty at n (contents_now p).bytes (contents_now p).bytes le (agrees_same at n (contents_now p).bytes) c (subst (λ h. Leaves h c) (contents_push p q (Failed at n) one) left))
       is
 
 module _ (p q : Past) (is : (q ≡ p) ⊎ (q ≡ with_change p Synced)) where
-  pub synced_same : (held q).bytes ≡ (held p).bytes
+  pub synced_same : (contents_now q).bytes ≡ (contents_now p).bytes
   synced_same = same_bytes p q Synced (λ h. refl) is
 
-  pub synced_only : (held q).dirty ≡ [] → Only (held p).bytes (Leaves (held q))
-  synced_only clean c left = outside_nothing (held q).bytes c (subst (λ rs. AgreesOutside rs (held q).bytes c) clean left) ∙ synced_same
+  pub synced_only : (contents_now q).dirty ≡ [] → Only (contents_now p).bytes (Leaves (contents_now q))
+  synced_only clean c left = outside_nothing (contents_now q).bytes c (subst (λ rs. AgreesOutside rs (contents_now q).bytes c) clean left) ∙ synced_same
 
-  pub synced_crash : (held q).dirty ≡ [] → (c : List ℕ) → Leaves (held q) c → Leaves (held p) c
-  synced_crash clean c left = outside_any (held p).dirty (held p).bytes c (synced_only clean c left)
+  pub synced_crash : (contents_now q).dirty ≡ [] → (c : List ℕ) → Leaves (contents_now q) c → Leaves (contents_now p) c
+  synced_crash clean c left = outside_any (contents_now p).dirty (contents_now p).bytes c (synced_only clean c left)
 
 -- nothing is dirty after a sync
-pub synced_clean : (p q : Past) → q ≡ with_change p Synced → (held q).dirty ≡ []
-synced_clean p q is = ap (λ h. h.dirty) (held_push p q Synced is)
+pub synced_clean : (p q : Past) → q ≡ with_change p Synced → (contents_now q).dirty ≡ []
+synced_clean p q is = ap (λ h. h.dirty) (contents_push p q Synced is)

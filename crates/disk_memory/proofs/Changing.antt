@@ -4,14 +4,14 @@ use Rattle.std.proofs.lemmas.List.{take_all}
 use Rattle.disk_trait.specs.Moments.{IsOutside, AgreesOutside}
 use Rattle.disk_memory.specs.declared.history.Event.{Event}
 use Rattle.disk_memory.specs.Events.{change_of}
-use Rattle.disk_memory.specs.Past.{Change, turned, held_after}
+use Rattle.disk_memory.specs.Past.{Change, turned, contents_after}
 use Rattle.disk_memory.specs.OnDisk.{IsInside, IsOther}
 use Rattle.disk_memory.proofs.Ranges.{by_range}
-use Rattle.disk_memory.proofs.Walks.{held_next}
+use Rattle.disk_memory.proofs.Walks.{contents_next}
 
 -- the ranges that are dirty after the first events
 abbrev pub dirty_after : List ℕ → List Event → ℕ → List (ℕ × ℕ)
-dirty_after first events n = (held_after first (map change_of (take n events))).dirty
+dirty_after first events n = (contents_after first (map change_of (take n events))).dirty
 
 -- an image of which some bytes are other ones already, and those in the ranges that are left are not yet
 pub record IsChanging (all left : List (ℕ × ℕ)) (bytes synced first image : List ℕ) : Type 0 where
@@ -50,8 +50,8 @@ changing_done all left bytes synced first image c none i h = elim (c.inside i h)
 ]
 
 -- what one event adds to them
-pub dirty_next : (first : List ℕ) (events : List Event) (k n : ℕ) (d : Event) (e : Change) → k < length events → n ≡ k + 1 → change_of (get_or events k d) ≡ e → dirty_after first events n ≡ (turned (held_after first (map change_of (take k events))) e).dirty
-dirty_next first events k n d e lt is same = ap (λ h. h.dirty) (held_next first events k n d lt is ∙ ap (turned (held_after first (map change_of (take k events)))) same)
+pub dirty_next : (first : List ℕ) (events : List Event) (k n : ℕ) (d : Event) (e : Change) → k < length events → n ≡ k + 1 → change_of (get_or events k d) ≡ e → dirty_after first events n ≡ (turned (contents_after first (map change_of (take k events))) e).dirty
+dirty_next first events k n d e lt is same = ap (λ h. h.dirty) (contents_next first events k n d lt is ∙ ap (turned (contents_after first (map change_of (take k events)))) same)
 
-pub dirty_all : (first : List ℕ) (events : List Event) (n : ℕ) → length events ≤ n → dirty_after first events n ≡ (held_after first (map change_of events)).dirty
-dirty_all first events n le = ap (λ es. (held_after first (map change_of es)).dirty) (take_all n events le)
+pub dirty_all : (first : List ℕ) (events : List Event) (n : ℕ) → length events ≤ n → dirty_after first events n ≡ (contents_after first (map change_of events)).dirty
+dirty_all first events n le = ap (λ es. (contents_after first (map change_of es)).dirty) (take_all n events le)

@@ -12,10 +12,10 @@ use Rattle.disk_trait.proofs.Ranges.{outside_same}
 use Rattle.disk_memory.specs.declared.history.Event.{Event}
 use Rattle.disk_memory.specs.declared.history.Event.TheVariants.{Write, FailedWrite, Sync}
 use Rattle.disk_memory.specs.Events.{change_of}
-use Rattle.disk_memory.specs.Past.{Past, Held, Change, Written, Failed, Synced, turned, run, held, held_after, Leaves}
+use Rattle.disk_memory.specs.Past.{Past, Contents, Change, Written, Failed, Synced, turned, run, contents_now, contents_after, Leaves}
 use Rattle.disk_memory.specs.OnDisk.{is_sync, up_to_sync, on_disk, LiesInside}
 use Rattle.disk_memory.proofs.Ranges.{holds_agrees}
-use Rattle.disk_memory.proofs.Walks.{changes_more, turned_long, held_long}
+use Rattle.disk_memory.proofs.Walks.{changes_more, turned_long, contents_long}
 
 -- the changes up to the last sync, where the last change is a sync, and where it is not
 up_cons : (e : Change) (es : List Change) → list_any is_sync (e ∷ es) ≡ true → up_to_sync (e ∷ es) ≡ e ∷ up_to_sync es
@@ -72,19 +72,19 @@ split_at_sync : (changes : List Change) → (rest : List Change) × (changes ≡
 split_at_sync [] = ([], refl, refl)
 split_at_sync (e ∷ es) = let s = split_at_sync es in split_sync (list_any is_sync (e ∷ es)) e es s.0 refl s.1 s.2
 
-run_append : (h : Held) (xs ys : List Change) → run h (xs ++ ys) ≡ run (run h xs) ys
+run_append : (h : Contents) (xs ys : List Change) → run h (xs ++ ys) ≡ run (run h xs) ys
 run_append h [] ys = refl
 run_append h (x ∷ xs) ys = run_append (turned h x) xs ys
 
 -- changes that are no syncs leave all but their ranges as it was
-turned_left : (size : ℕ) (h : Held) (e : Change) (base : List ℕ) → length h.bytes ≡ size → LiesInside size e → is_sync e ≡ false → AgreesOutside h.dirty h.bytes base → AgreesOutside (turned h e).dirty (turned h e).bytes base
+turned_left : (size : ℕ) (h : Contents) (e : Change) (base : List ℕ) → length h.bytes ≡ size → LiesInside size e → is_sync e ≡ false → AgreesOutside h.dirty h.bytes base → AgreesOutside (turned h e).dirty (turned h e).bytes base
 turned_left size h (Written at bytes) base long le other left =
     let a = holds_agrees h.bytes at bytes (turned h (Written at bytes)).bytes (omega (arith, long, le)) refl in
     record { same_length = left.same_length ∙ sym a.same_length; each = λ i o. left.each i o.1 ∙ sym (byte_apart at (length bytes) i h.bytes (turned h (Written at bytes)).bytes o.0 a) }
 turned_left size h (Failed at n) base long le other left = record { same_length = left.same_length; each = λ i o. left.each i o.1 }
 turned_left size h Synced base long le other left = absurd (false≢true (sym other))
 
-run_left : (size : ℕ) (h : Held) (changes : List Change) (base : List ℕ) → length h.bytes ≡ size → All (LiesInside size) changes → list_any is_sync changes ≡ false → AgreesOutside h.dirty h.bytes base → AgreesOutside (run h changes).dirty (run h changes).bytes base
+run_left : (size : ℕ) (h : Contents) (changes : List Change) (base : List ℕ) → length h.bytes ≡ size → All (LiesInside size) changes → list_any is_sync changes ≡ false → AgreesOutside h.dirty h.bytes base → AgreesOutside (run h changes).dirty (run h changes).bytes base
 run_left size h [] base long all none left = left
 run_left size h (e ∷ es) base long all none left =
     let one = All-head (LiesInside size) e es all in
@@ -102,14 +102,14 @@ all_back P (x ∷ xs) ys all = all_back P xs ys (All-tail P x (xs ++ ys) all)
 pub on_disk_long : (p : Past) → All (LiesInside (length p.first)) p.changes → length (on_disk p) ≡ length p.first
 on_disk_long p all =
     let s = split_at_sync p.changes in
-    held_long p.first (up_to_sync p.changes) (all_front (LiesInside (length p.first)) (up_to_sync p.changes) s.0 (subst (All (LiesInside (length p.first))) s.1 all))
+    contents_long p.first (up_to_sync p.changes) (all_front (LiesInside (length p.first)) (up_to_sync p.changes) s.0 (subst (All (LiesInside (length p.first))) s.1 all))
 
-pub on_disk_left : (p : Past) → All (LiesInside (length p.first)) p.changes → Leaves (held p) (on_disk p)
+pub on_disk_left : (p : Past) → All (LiesInside (length p.first)) p.changes → Leaves (contents_now p) (on_disk p)
 on_disk_left p all =
     let s = split_at_sync p.changes in
     let P = LiesInside (length p.first) in
     let up = up_to_sync p.changes in
-    let h = held_after p.first up in
+    let h = contents_after p.first up in
     let parts = subst (All P) s.1 all in
-    let whole : held p ≡ run h s.0 = ap (held_after p.first) s.1 ∙ run_append (record { bytes = p.first; dirty = [] }) up s.0 in
-    subst (λ g. Leaves g (on_disk p)) (sym whole) (run_left (length p.first) h s.0 h.bytes (held_long p.first up (all_front P up s.0 parts)) (all_back P up s.0 parts) s.2 (outside_same h.dirty h.bytes))
+    let whole : contents_now p ≡ run h s.0 = ap (contents_after p.first) s.1 ∙ run_append (record { bytes = p.first; dirty = [] }) up s.0 in
+    subst (λ g. Leaves g (on_disk p)) (sym whole) (run_left (length p.first) h s.0 h.bytes (contents_long p.first up (all_front P up s.0 parts)) (all_back P up s.0 parts) s.2 (outside_same h.dirty h.bytes))

@@ -1,8 +1,8 @@
 -- What the fields of a disk's history stand for.
 use Rattle.std.specs.Prelude.{◌≡◌, ◌<◌, true, false, [], length, map, All, vec_len, vec_capacity}
-use Rattle.disk_memory.specs.declared.history.History.TheInside.{Inside}
+use Rattle.disk_memory.specs.declared.history.DiskHistory.TheInside.{Inside}
 use Rattle.disk_memory.specs.Events.{change_of}
-use Rattle.disk_memory.specs.Past.{Past, held}
+use Rattle.disk_memory.specs.Past.{Past, contents_now}
 use Rattle.disk_memory.specs.OnDisk.{LiesInside}
 
 -- the past that is recorded
@@ -12,5 +12,5 @@ past_of h = record { first = h.first.items; changes = map change_of h.events.ite
 -- a history is one of a disk: each write lies inside it, and where not all is on it there is room for one event more
 pub record IsHistory (h : Inside) : Type 0 where
   pub inside : All (λ e. LiesInside (length h.first.items) (change_of e)) h.events.items
-  pub clean : h.is_clean ≡ true → (held (past_of h)).dirty ≡ []
+  pub clean : h.is_clean ≡ true → (contents_now (past_of h)).dirty ≡ []
   pub room : h.is_clean ≡ false → vec_len h.events < vec_capacity h.events

@@ -1,7 +1,7 @@
 -- What is on a disk for good: what was held at its last sync.
 use Rattle.std.specs.Prelude.{◌≢◌, ◌<◌, ◌≤◌, ◌+◌, ◌⊎◌, ℕ, List, [], ◌∷◌, length, slice_index, Bool, true, false, if◌then◌else◌, ⊤}
 use Rattle.std.specs.List.{list_any}
-use Rattle.disk_memory.specs.Past.{Change, Written, Failed, Synced, Past, held_after}
+use Rattle.disk_memory.specs.Past.{Change, Written, Failed, Synced, Past, contents_after}
 
 -- whether a change is a sync
 abbrev pub is_sync : Change → Bool
@@ -16,7 +16,7 @@ up_to_sync (e ∷ es) = if list_any is_sync (e ∷ es) then e ∷ up_to_sync es 
 
 -- what was held at the last sync, or at first where there was none
 abbrev pub on_disk : Past → List ℕ
-on_disk p = (held_after p.first (up_to_sync p.changes)).bytes
+on_disk p = (contents_after p.first (up_to_sync p.changes)).bytes
 
 -- a change writes, or fails to write, inside a disk of this size
 abbrev pub LiesInside : ℕ → Change → Type 0

@@ -14,31 +14,31 @@ pub record Past : Type 0 where
   pub changes : List Change
 
 -- what reads give, and the ranges that were written since the last sync, each its start and its length
-pub record Held : Type 0 where
+pub record Contents : Type 0 where
   pub bytes : List ℕ
   pub dirty : List (ℕ × ℕ)
 
 -- what is held after one change more
-abbrev pub turned : Held → Change → Held
+abbrev pub turned : Contents → Change → Contents
 turned h (Written at bytes) = record { bytes = take at h.bytes ++ (bytes ++ drop (at + length bytes) h.bytes); dirty = (at, length bytes) ∷ h.dirty }
 turned h (Failed at n) = record { bytes = h.bytes; dirty = (at, n) ∷ h.dirty }
 turned h Synced = record { bytes = h.bytes; dirty = [] }
 
 -- what is held after these changes
-abbrev pub run : Held → List Change → Held
+abbrev pub run : Contents → List Change → Contents
 run h [] = h
 run h (e ∷ es) = run (turned h e) es
 
 -- what is held over these first bytes, all of them on the disk, after these changes
-abbrev pub held_after : List ℕ → List Change → Held
-held_after first changes = run (record { bytes = first; dirty = [] }) changes
+abbrev pub contents_after : List ℕ → List Change → Contents
+contents_after first changes = run (record { bytes = first; dirty = [] }) changes
 
 -- what is held now
-abbrev pub held : Past → Held
-held p = held_after p.first p.changes
+abbrev pub contents_now : Past → Contents
+contents_now p = contents_after p.first p.changes
 
 -- a crash leaves what reads give, but for the ranges written since the last sync
-abbrev pub Leaves : Held → List ℕ → Type 0
+abbrev pub Leaves : Contents → List ℕ → Type 0
 Leaves h image = AgreesOutside h.dirty h.bytes image
 
 -- an image that a crash might have left after some of the changes, at least the first t
@@ -46,7 +46,7 @@ pub record HadBeen (p : Past) (t : ℕ) (image : List ℕ) : Type 0 where
   pub count : ℕ
   pub since : t ≤ count
   pub made : count ≤ length p.changes
-  pub left : Leaves (held_after p.first (take count p.changes)) image
+  pub left : Leaves (contents_after p.first (take count p.changes)) image
 
 -- the same past with one change more
 abbrev pub with_change : Past → Change → Past

@@ -1,7 +1,8 @@
 //! A bay of disks in memory.
 ghost use Rattle.std.specs.Prelude.{◌≡◌, ◌≢◌, ◌⊎◌, ◌*◌, Contains, IsErr, ◌↔◌, ◌+◌, ◌-◌, ◌^◌, ◌++◌, ◌∷◌, [], min, ◌≤◌, List, ℕ, true, IsNone, IfOk, IfSome, IfNone, OnOk, OnErr};
 ghost use Rattle.std.specs.List.{position};
-ghost use Rattle.disk_trait.specs.Bay.{Absent, Out, Home, SameBut, Tells, IsNew, HasNameCause};
+ghost use Rattle.grid_types.specs.declared.sizes.TheConstants.{PAGE_BYTES};
+ghost use Rattle.disk_trait.specs.Bay.{Absent, Out, Home, SameBut, Tells, blank, IsUnfailed, HasNameCause};
 ghost use Rattle.disk_trait.specs.Causes.{HasCause, Rose};
 ghost use Rattle.disk_memory.specs.Bays.{is_named};
 
@@ -30,7 +31,7 @@ pub struct MemoryBay {
 }
 
 impl MemoryBay {
-    ghost use Rattle.disk_memory.specs.Memories.{bytes_of};
+    ghost use Rattle.disk_memory.specs.Memories.{reads_of};
     ghost use Rattle.disk_memory.specs.Bays.{place_of, place_of_disk, failures_of, chosen_calls, SamePlaces, HasNoDisk};
 
     /// A bay with no name.
@@ -61,7 +62,8 @@ impl MemoryBay {
 
     /// What reads of the disk give that lies under a name, where one does.
     pub fn bytes(&self, name: &str) -> Option<&[u8]>
-        ensures found { IfSome result (λ b. Tells (λ d. b.now ≡ bytes_of d) (place_of self.now name.now)) }
+        ensures found { IfSome result (λ b. Tells (λ d. b.now ≡ reads_of d)
+            (place_of self.now name.now)) }
         ensures none { IfNone result (HasNoDisk (place_of self.now name.now)) }
     {
         let Some(index) = self.find(name) else {
@@ -141,9 +143,10 @@ fn count_failure(failures: &mut u64) -> BayFailed
 impl Bay for MemoryBay {
     type Disk = Memory;
 
-    ghost use Rattle.disk_memory.specs.Plans.{after_a_call, counted};
-    ghost use Rattle.disk_memory.specs.Memories.{is_told, bytes_of, dirty_of, extent_of, LeftSince, failed_reads, failed_writes, chosen_of, TellsSame};
-    ghost use Rattle.disk_memory.specs.Bays.{place_of, failures_of, chosen_calls, HasNoDisk};
+    ghost use Rattle.disk_memory.specs.Plans.{after_a_call};
+    ghost use Rattle.disk_memory.specs.Memories.{as_disk, extent_of, failed_reads, failed_writes, IsNewMemory};
+    ghost use Rattle.disk_memory.specs.Fuses.{IsAs};
+    ghost use Rattle.disk_memory.specs.Bays.{place_of, failures_of, chosen_calls, CountsUnlessNamed, HasNoDisk};
 
     ghost tells = { λ b. true };
 
@@ -152,22 +155,19 @@ impl Bay for MemoryBay {
     ghost fault_count = { failures_of };
 
     fn create(&mut self, name: &str, pages: u64) -> Result<Memory, BayFailed>
-        ensures extent { IfOk result (λ d. extent_of d ≡ pages * 4096) }
-        ensures unfailed { IfOk result (λ d. (failed_reads d ≡ 0) × (failed_writes d ≡ 0)) }
-        ensures zeros { IfOk result (IsNew is_told bytes_of LeftSince (pages * 4096)) }
+        ensures extent { IfOk result (λ d. extent_of d ≡ pages * PAGE_BYTES) }
+        ensures zeros { IfOk result (IsNewMemory (blank (pages * PAGE_BYTES))) }
         ensures absent { OnOk result (place_of self.old name.now ≡ Absent) }
         ensures out { OnOk result (place_of self.new name.now ≡ Out) }
         ensures others { SameBut name.now (place_of self.old) (place_of self.new) }
         ensures refused { OnErr result (place_of self.new name.now ≡ place_of self.old name.now) }
-        ensures cause { HasNameCause (place_of self.old name.now ≢ Absent) (failures_of self.old) (failures_of self.new) result }
+        ensures cause { HasNameCause (place_of self.old name.now ≢ Absent)
+            (failures_of self.old) (failures_of self.new) result }
 
         // A create that was chosen fails, and any other only where the name is there or for want of memory.
-        ensures unplanned { IfOk result (λ d. chosen_of d ≡ []) }
         ensures fails { Contains (chosen_calls self.old) 1 → IsErr result }
-        ensures uncounted { OnOk result (failures_of self.new ≡ failures_of self.old) }
-        ensures counted { OnErr result (place_of self.old name.now ≡ Absent → failures_of self.new ≡ counted result (failures_of self.old)) }
-        ensures there { (Contains (chosen_calls self.old) 1 → ⊥) → place_of self.old name.now ≢ Absent → failures_of self.new ≡ failures_of self.old }
-        ensures nearer { chosen_calls self.new ≡ after_a_call (chosen_calls self.old) }
+        ensures counts { CountsUnlessNamed (place_of self.old name.now ≢ Absent)
+            self.old self.new result }
     {
         if self.plan.is_next_chosen() {
             return Err(count_failure(&mut self.failures));
@@ -185,22 +185,20 @@ impl Bay for MemoryBay {
     }
 
     fn open(&mut self, name: &str) -> Result<Memory, BayFailed>
-        ensures unfailed { IfOk result (λ d. (failed_reads d ≡ 0) × (failed_writes d ≡ 0)) }
-        ensures same { IfOk result (λ d. Tells (TellsSame d) (place_of self.old name.now)) }
+        ensures unfailed { IfOk result (IsUnfailed as_disk) }
+        ensures same { IfOk result (λ d. Tells (IsAs d) (place_of self.old name.now)) }
         ensures out { OnOk result (place_of self.new name.now ≡ Out) }
         ensures others { SameBut name.now (place_of self.old) (place_of self.new) }
         ensures refused { OnErr result (place_of self.new name.now ≡ place_of self.old name.now) }
-        ensures cause { HasNameCause (place_of self.old name.now ≡ Absent) (failures_of self.old) (failures_of self.new) result }
+        ensures cause { HasNameCause (place_of self.old name.now ≡ Absent)
+            (failures_of self.old) (failures_of self.new) result }
 
         // An open that was chosen fails, and any other only where no disk lies there.
-        ensures dirty { IfOk result (λ d. Tells (λ m. dirty_of d ≡ dirty_of m) (place_of self.old name.now)) }
-        ensures planned { IfOk result (λ d. Tells (λ m. chosen_of d ≡ chosen_of m) (place_of self.old name.now)) }
         ensures fails { Contains (chosen_calls self.old) 1 → IsErr result }
-        ensures failed { OnErr result (Contains (chosen_calls self.old) 1 ⊎ HasNoDisk (place_of self.old name.now)) }
-        ensures uncounted { OnOk result (failures_of self.new ≡ failures_of self.old) }
-        ensures counted { OnErr result (place_of self.old name.now ≢ Absent → failures_of self.new ≡ counted result (failures_of self.old)) }
-        ensures absent { (Contains (chosen_calls self.old) 1 → ⊥) → place_of self.old name.now ≡ Absent → failures_of self.new ≡ failures_of self.old }
-        ensures nearer { chosen_calls self.new ≡ after_a_call (chosen_calls self.old) }
+        ensures failed { OnErr result
+            (Contains (chosen_calls self.old) 1 ⊎ HasNoDisk (place_of self.old name.now)) }
+        ensures counts { CountsUnlessNamed (place_of self.old name.now ≡ Absent)
+            self.old self.new result }
     {
         if self.plan.is_next_chosen() {
             return Err(count_failure(&mut self.failures));
@@ -217,13 +215,17 @@ impl Bay for MemoryBay {
     fn close(&mut self, name: &str, disk: Memory) -> Result<(), BayFailed>
         ensures home { OnOk result (place_of self.new name.now ≡ Home disk) }
         ensures others { SameBut name.now (place_of self.old) (place_of self.new) }
-        ensures read_failed { failed_reads disk ≢ 0 → Rose (failures_of self.old) (failures_of self.new) }
-        ensures write_failed { failed_writes disk ≢ 0 → Rose (failures_of self.old) (failures_of self.new) }
+        ensures read_failed { failed_reads disk ≢ 0
+            → Rose (failures_of self.old) (failures_of self.new) }
+        ensures write_failed { failed_writes disk ≢ 0
+            → Rose (failures_of self.old) (failures_of self.new) }
         ensures cause { HasCause (failures_of self.old) (failures_of self.new) result }
 
         // A close that was chosen fails, and any other only for want of memory. It counts one failure at most.
         ensures fails { Contains (chosen_calls self.old) 1 → IsErr result }
-        ensures uncounted { OnOk result (failed_reads disk ≡ 0 → failed_writes disk ≡ 0 → failures_of self.new ≡ failures_of self.old) }
+        ensures uncounted { OnOk result (failed_reads disk ≡ 0
+            → failed_writes disk ≡ 0
+            → failures_of self.new ≡ failures_of self.old) }
         ensures once { failures_of self.new ≤ failures_of self.old + 1 }
         ensures nearer { chosen_calls self.new ≡ after_a_call (chosen_calls self.old) }
     {

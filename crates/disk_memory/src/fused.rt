@@ -1,12 +1,15 @@
 //! A disk in memory that stops.
-ghost use Rattle.std.specs.Prelude.{◌≡◌, ◌≢◌, ◌↔◌, ◌⊎◌, List, ℕ, Contains, IsErr, IsTrue, ◌+◌, ◌-◌, ◌*◌, ◌∷◌, ◌≤◌, [], length, refl, IfOk, OnOk, OnErr};
+ghost use Rattle.std.specs.Prelude.{◌≡◌, ◌≢◌, ◌↔◌, ◌⊎◌, Contains, IsErr, IsTrue, ◌+◌, ◌-◌, ◌*◌, ◌≤◌, length, refl, IfOk, OnOk, OnErr};
+ghost use Rattle.grid_types.specs.declared.sizes.TheConstants.{PAGE_BYTES};
 ghost use Rattle.disk_trait.specs.Causes.{HasCause};
 ghost use Rattle.grid_types.specs.Pages.{page_of};
-ghost use Rattle.disk_trait.specs.Disk.{Only, Follows, Agrees, Holds, InOnePage};
+ghost use Rattle.disk_trait.specs.Disk.{Only, Agrees, Holds, InOnePage};
+ghost use Rattle.disk_trait.specs.Moments.{After, Always};
 
 use crate::keep::Keep;
 use crate::memory::Memory;
 use disk_trait::{Disk, DiskFailed, Steps};
+use grid_types::PAGE_BYTES;
 use std::alloc::AllocError;
 use std::sync::ledger::Ledger;
 
@@ -19,7 +22,7 @@ pub struct Fused {
 }
 
 impl Fused {
-    ghost use Rattle.disk_memory.specs.Memories.{bytes_of, IsFresh, MayLeave};
+    ghost use Rattle.disk_memory.specs.Memories.{reads_of, IsNewMemory, MayLeave};
     ghost use Rattle.disk_memory.specs.Fuses.{disk_of, calls_left, IsKept};
 
     /// The disk, that makes so many more reads, writes and syncs.
@@ -32,9 +35,9 @@ impl Fused {
 
     /// The disk that a crash now leaves. All its bytes are on the disk, and no failure is counted or chosen.
     pub fn image(self, keep: Keep) -> Result<Memory, AllocError>
-        ensures kept { IfOk result (λ m. IsKept keep (disk_of self) (bytes_of m)) }
-        ensures left { IfOk result (λ m. MayLeave (disk_of self) (bytes_of m)) }
-        ensures fresh { IfOk result (λ m. IsFresh (bytes_of m) m) }
+        ensures kept { IfOk result (λ m. IsKept keep (disk_of self) (reads_of m)) }
+        ensures left { IfOk result (λ m. MayLeave (disk_of self) (reads_of m)) }
+        ensures fresh { IfOk result (λ m. IsNewMemory (reads_of m) m) }
     {
         self.disk.image(keep)
     }
@@ -53,16 +56,15 @@ fn is_made(left: &mut u64) -> bool
 }
 
 impl Disk for Fused {
-    ghost use Rattle.disk_memory.specs.Plans.{after_a_call, counted};
-    ghost use Rattle.disk_memory.specs.Memories.{TimeGoesOn, dirty_of, chosen_of, is_told, bytes_of, extent_of, MayLeave, moment_of, LeftSince, failed_reads, failed_writes};
-    ghost use Rattle.disk_memory.specs.Fuses.{disk_of, calls_left, IsAs};
+    ghost use Rattle.disk_memory.specs.Memories.{is_told, reads_of, extent_of, MayLeave, moment_of, LeftSince, failed_reads, failed_writes, chosen_of, TimeGoesOn, HoldsSame, CountsRead, CountsWrite, AddsRange, ClearsRanges};
+    ghost use Rattle.disk_memory.specs.Fuses.{disk_of, calls_left, LetsOneLess};
     ghost use Rattle.disk_memory.specs.PastLaws.{leaves_itself, had_been_now, only_last};
 
     ghost honest = { λ f. is_told (disk_of f) };
 
     ghost extent = { λ f. extent_of (disk_of f) };
 
-    ghost seen = { λ f. bytes_of (disk_of f) };
+    ghost seen = { λ f. reads_of (disk_of f) };
 
     ghost may_leave = { λ f. MayLeave (disk_of f) };
 
@@ -89,27 +91,22 @@ impl Disk for Fused {
     fn read<L: Ledger>(
         &mut self,
         page: u64,
-        out: &mut [u8; 4096],
+        out: &mut [u8; PAGE_BYTES],
         steps: &mut Steps<L>,
     ) -> Result<(), DiskFailed>
-        requires { page * 4096 + 4096 ≤ extent_of (disk_of self.old) }
+        requires { page * PAGE_BYTES + PAGE_BYTES ≤ extent_of (disk_of self.old) }
         ensures ticks { steps.new ≡ steps.old + 1 }
-        ensures bytes { OnOk result (out.new ≡ page_of page (bytes_of (disk_of self.old))) }
-        ensures seen { bytes_of (disk_of self.new) ≡ bytes_of (disk_of self.old) }
-        ensures crash { (c : List ℕ) → MayLeave (disk_of self.new) c ↔ MayLeave (disk_of self.old) c }
+        ensures bytes { OnOk result (out.new ≡ page_of page (reads_of (disk_of self.old))) }
+        ensures same { HoldsSame (disk_of self.old) (disk_of self.new) }
         ensures time { TimeGoesOn (disk_of self.old) (disk_of self.new) }
-        ensures extent { extent_of (disk_of self.new) ≡ extent_of (disk_of self.old) }
-        ensures cause { HasCause (failed_reads (disk_of self.old)) (failed_reads (disk_of self.new)) result }
-        ensures other { failed_writes (disk_of self.old) ≤ failed_writes (disk_of self.new) }
+        ensures cause { HasCause (failed_reads (disk_of self.old))
+            (failed_reads (disk_of self.new)) result }
 
         // A read fails where the fuse has stopped the disk or where it was chosen. One that is not made changes nothing.
-        ensures fails { IsErr result ↔ ((calls_left self.old ≡ 0) ⊎ Contains (chosen_of (disk_of self.old)) 1) }
-        ensures counted { failed_reads (disk_of self.new) ≡ counted result (failed_reads (disk_of self.old)) }
-        ensures writes { failed_writes (disk_of self.new) ≡ failed_writes (disk_of self.old) }
-        ensures stopped { calls_left self.old ≡ 0 → IsAs (disk_of self.new) (disk_of self.old) }
-        ensures left { calls_left self.new ≡ calls_left self.old - 1 }
-        ensures nearer { calls_left self.old ≢ 0 → chosen_of (disk_of self.new) ≡ after_a_call (chosen_of (disk_of self.old)) }
-        ensures dirty { dirty_of (disk_of self.new) ≡ dirty_of (disk_of self.old) }
+        ensures fails { IsErr result
+            ↔ ((calls_left self.old ≡ 0) ⊎ Contains (chosen_of (disk_of self.old)) 1) }
+        ensures counts { CountsRead (disk_of self.old) (disk_of self.new) result }
+        ensures fuse { LetsOneLess self.old self.new }
     {
         if !is_made(&mut self.left) {
             steps.tick();
@@ -120,25 +117,26 @@ impl Disk for Fused {
 
     fn write(&mut self, at: u64, bytes: &[u8]) -> Result<(), DiskFailed>
         requires { InOnePage at (length bytes.now) (extent_of (disk_of self.old)) }
-        ensures written { OnOk result (Holds (bytes_of (disk_of self.old)) at bytes.now (bytes_of (disk_of self.new))) }
-        ensures outside { Agrees at (length bytes.now) (bytes_of (disk_of self.old)) (bytes_of (disk_of self.new)) }
-        ensures crash { Follows (Agrees at (length bytes.now)) (MayLeave (disk_of self.old)) (MayLeave (disk_of self.new)) }
+        ensures written { OnOk result
+            (Holds (reads_of (disk_of self.old)) at bytes.now (reads_of (disk_of self.new))) }
+        ensures outside { Agrees at (length bytes.now)
+            (reads_of (disk_of self.old)) (reads_of (disk_of self.new)) }
+        ensures crash { Always (MayLeave (disk_of self.new))
+            (After (Agrees at (length bytes.now)) (MayLeave (disk_of self.old))) }
         ensures time { TimeGoesOn (disk_of self.old) (disk_of self.new) }
-        ensures extent { extent_of (disk_of self.new) ≡ extent_of (disk_of self.old) }
-        ensures cause { HasCause (failed_writes (disk_of self.old)) (failed_writes (disk_of self.new)) result }
-        ensures other { failed_reads (disk_of self.old) ≤ failed_reads (disk_of self.new) }
+        ensures cause { HasCause (failed_writes (disk_of self.old))
+            (failed_writes (disk_of self.new)) result }
 
         // A write fails where the fuse has stopped the disk, where it was chosen, or for want of memory. One that is not
         // made changes nothing.
-        ensures fails { (calls_left self.old ≡ 0) ⊎ Contains (chosen_of (disk_of self.old)) 1 → IsErr result }
-        ensures unwritten { OnErr result (bytes_of (disk_of self.new) ≡ bytes_of (disk_of self.old)) }
-        ensures counted { failed_writes (disk_of self.new) ≡ counted result (failed_writes (disk_of self.old)) }
-        ensures reads { failed_reads (disk_of self.new) ≡ failed_reads (disk_of self.old) }
-        ensures stopped { calls_left self.old ≡ 0 → IsAs (disk_of self.new) (disk_of self.old) }
-        ensures left { calls_left self.new ≡ calls_left self.old - 1 }
-        ensures nearer { calls_left self.old ≢ 0 → chosen_of (disk_of self.new) ≡ after_a_call (chosen_of (disk_of self.old)) }
-        ensures dirty { OnOk result (dirty_of (disk_of self.new) ≡ (at, length bytes.now) ∷ dirty_of (disk_of self.old)) }
-        ensures failed_dirty { OnErr result ((dirty_of (disk_of self.new) ≡ dirty_of (disk_of self.old)) ⊎ (dirty_of (disk_of self.new) ≡ (at, length bytes.now) ∷ dirty_of (disk_of self.old))) }
+        ensures fails { (calls_left self.old ≡ 0) ⊎ Contains (chosen_of (disk_of self.old)) 1
+            → IsErr result }
+        ensures unwritten { OnErr result
+            (reads_of (disk_of self.new) ≡ reads_of (disk_of self.old)) }
+        ensures counts { CountsWrite (disk_of self.old) (disk_of self.new) result }
+        ensures ranges { AddsRange at (length bytes.now)
+            (disk_of self.old) (disk_of self.new) result }
+        ensures fuse { LetsOneLess self.old self.new }
     {
         if !is_made(&mut self.left) {
             return Err(self.disk.refuse_write());
@@ -147,24 +145,22 @@ impl Disk for Fused {
     }
 
     fn sync(&mut self) -> Result<(), DiskFailed>
-        ensures durable { OnOk result (Only (bytes_of (disk_of self.old)) (MayLeave (disk_of self.new))) }
-        ensures seen { bytes_of (disk_of self.new) ≡ bytes_of (disk_of self.old) }
-        ensures crash { (c : List ℕ) → MayLeave (disk_of self.new) c → MayLeave (disk_of self.old) c }
-        ensures stays { OnErr result ((c : List ℕ) → MayLeave (disk_of self.old) c → MayLeave (disk_of self.new) c) }
+        ensures durable { OnOk result
+            (Only (reads_of (disk_of self.old)) (MayLeave (disk_of self.new))) }
+        ensures seen { reads_of (disk_of self.new) ≡ reads_of (disk_of self.old) }
+        ensures crash { Always (MayLeave (disk_of self.new)) (MayLeave (disk_of self.old)) }
+        ensures stays { OnErr result
+            (Always (MayLeave (disk_of self.old)) (MayLeave (disk_of self.new))) }
         ensures time { TimeGoesOn (disk_of self.old) (disk_of self.new) }
-        ensures extent { extent_of (disk_of self.new) ≡ extent_of (disk_of self.old) }
-        ensures cause { HasCause (failed_writes (disk_of self.old)) (failed_writes (disk_of self.new)) result }
-        ensures other { failed_reads (disk_of self.old) ≤ failed_reads (disk_of self.new) }
+        ensures cause { HasCause (failed_writes (disk_of self.old))
+            (failed_writes (disk_of self.new)) result }
 
         // A sync fails where the fuse has stopped the disk or where it was chosen. One that is not made changes nothing.
-        ensures fails { IsErr result ↔ ((calls_left self.old ≡ 0) ⊎ Contains (chosen_of (disk_of self.old)) 1) }
-        ensures counted { failed_writes (disk_of self.new) ≡ counted result (failed_writes (disk_of self.old)) }
-        ensures reads { failed_reads (disk_of self.new) ≡ failed_reads (disk_of self.old) }
-        ensures stopped { calls_left self.old ≡ 0 → IsAs (disk_of self.new) (disk_of self.old) }
-        ensures left { calls_left self.new ≡ calls_left self.old - 1 }
-        ensures nearer { calls_left self.old ≢ 0 → chosen_of (disk_of self.new) ≡ after_a_call (chosen_of (disk_of self.old)) }
-        ensures clean { OnOk result (dirty_of (disk_of self.new) ≡ []) }
-        ensures failed_dirty { OnErr result (dirty_of (disk_of self.new) ≡ dirty_of (disk_of self.old)) }
+        ensures fails { IsErr result
+            ↔ ((calls_left self.old ≡ 0) ⊎ Contains (chosen_of (disk_of self.old)) 1) }
+        ensures counts { CountsWrite (disk_of self.old) (disk_of self.new) result }
+        ensures ranges { ClearsRanges (disk_of self.old) (disk_of self.new) result }
+        ensures fuse { LetsOneLess self.old self.new }
     {
         if !is_made(&mut self.left) {
             return Err(self.disk.refuse_write());

@@ -1,7 +1,7 @@
 //! What a disk in memory has held since it was made.
 ghost use Rattle.std.specs.Prelude.{◌≡◌, ◌⊎◌, ◌+◌, ◌≤◌, ℕ, [], length, OnOk, OnErr, IfOk};
 ghost use Rattle.disk_trait.specs.Moments.{AgreesOutside};
-ghost use Rattle.disk_memory.specs.Past.{Written, Failed, Synced, held, with_change, Leaves};
+ghost use Rattle.disk_memory.specs.Past.{Written, Failed, Synced, contents_now, with_change, Leaves};
 ghost use Rattle.disk_memory.specs.Events.{change_of};
 ghost use Rattle.disk_memory.specs.OnDisk.{LiesInside, on_disk, IsInside, IsOther};
 
@@ -24,14 +24,14 @@ pub enum Event {
 ///
 /// Where some of them are not on the disk there is room for one event more, so that a sync needs no memory.
 #[derive(Drop)]
-pub struct History {
+pub struct DiskHistory {
     alloc: Global,
     first: Vec<u8>,
     events: Vec<Event>,
     is_clean: bool,
 }
 
-impl Model for History {
+impl Model for DiskHistory {
     ghost use Rattle.disk_memory.specs.Past.{Past};
 
     ghost Value = { Past };
@@ -43,13 +43,13 @@ impl Model for History {
     ghost invariant = { IsHistory };
 }
 
-impl History {
+impl DiskHistory {
     /// The history that begins with these bytes, all of them on the disk.
-    pub fn new(alloc: Global, bytes: &[u8]) -> Result<History, AllocError>
+    pub fn new(alloc: Global, bytes: &[u8]) -> Result<DiskHistory, AllocError>
         ensures { IfOk result (λ h. h ≡ record { first = bytes.now; changes = [] }) }
     {
         let first = bytes.to_vec(alloc)?;
-        Ok(History {
+        Ok(DiskHistory {
             alloc,
             first,
             events: Vec::new(alloc),
@@ -59,7 +59,7 @@ impl History {
 
     /// Records that bytes are written from an offset on. Its only error is want of memory.
     pub fn record_write(&mut self, at: usize, bytes: &[u8]) -> Result<(), AllocError>
-        requires { at + length bytes.now ≤ length (held self.old).bytes }
+        requires { at + length bytes.now ≤ length (contents_now self.old).bytes }
         ensures recorded { OnOk result (self.new ≡ with_change self.old (Written at bytes.now)) }
         ensures refused { OnErr result (self.new ≡ self.old) }
     {
@@ -69,7 +69,7 @@ impl History {
 
     /// Records that a write of that many bytes failed. Its only error is want of memory.
     pub fn record_failed_write(&mut self, at: usize, size: usize) -> Result<(), AllocError>
-        requires { at + size ≤ length (held self.old).bytes }
+        requires { at + size ≤ length (contents_now self.old).bytes }
         ensures recorded { OnOk result (self.new ≡ with_change self.old (Failed at size)) }
         ensures refused { OnErr result (self.new ≡ self.old) }
     {
@@ -78,7 +78,7 @@ impl History {
 
     /// Adds an event, where there is memory for one more behind it. Its only error is want of memory.
     fn add(&mut self, event: Event) -> Result<(), AllocError>
-        requires { LiesInside (length (held self.old).bytes) (change_of event) }
+        requires { LiesInside (length (contents_now self.old).bytes) (change_of event) }
         ensures added { OnOk result (self.new ≡ with_change self.old (change_of event)) }
         ensures refused { OnErr result (self.new ≡ self.old) }
     {
@@ -90,7 +90,7 @@ impl History {
 
     /// Records a sync, unless all bytes are on the disk already.
     pub fn record_sync(&mut self)
-        ensures clean { (held self.new).dirty ≡ [] }
+        ensures clean { (contents_now self.new).dirty ≡ [] }
         ensures recorded { (self.new ≡ self.old) ⊎ (self.new ≡ with_change self.old Synced) }
     {
         if self.is_clean {
@@ -105,7 +105,7 @@ impl History {
     /// What was on the disk at the last sync, or at first where there was none.
     pub fn on_disk(&self) -> Result<Vec<u8>, AllocError>
         ensures bytes { IfOk result (λ v. v.items ≡ on_disk self.now) }
-        ensures left { IfOk result (λ v. Leaves (held self.now) v.items) }
+        ensures left { IfOk result (λ v. Leaves (contents_now self.now) v.items) }
     {
         let mut bytes = self.first.to_vec(self.alloc)?;
         replay(&self.events[..synced_count(&self.events)], &mut bytes);
@@ -114,9 +114,12 @@ impl History {
 
     /// What reads give, but with another byte wherever one is not on the disk yet.
     pub fn changed(&self, bytes: &[u8]) -> Result<Vec<u8>, AllocError>
-        requires { bytes.now ≡ (held self.now).bytes }
-        ensures outside { IfOk result (λ v. AgreesOutside (held self.now).dirty bytes.now v.items) }
-        ensures inside { IfOk result (λ v. (i : ℕ) → IsInside (held self.now).dirty i → IsOther bytes.now (on_disk self.now) v.items i) }
+        requires { bytes.now ≡ (contents_now self.now).bytes }
+        ensures outside { IfOk result
+            (λ v. AgreesOutside (contents_now self.now).dirty bytes.now v.items) }
+        ensures inside { IfOk result (λ v. (i : ℕ)
+            → IsInside (contents_now self.now).dirty i
+            → IsOther bytes.now (on_disk self.now) v.items i) }
     {
         let synced = self.on_disk()?;
         let mut image = bytes.to_vec(self.alloc)?;

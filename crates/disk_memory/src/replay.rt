@@ -2,7 +2,7 @@
 ghost use Rattle.std.specs.Prelude.{◌≡◌, ◌≢◌, ◌≤◌, ◌<◌, ◌+◌, ◌⊎◌, ℕ, List, All, length, map, take, slice_index};
 ghost use Rattle.disk_trait.specs.Disk.{Holds};
 ghost use Rattle.disk_trait.specs.Moments.{AgreesOutside};
-ghost use Rattle.disk_memory.specs.Past.{held_after};
+ghost use Rattle.disk_memory.specs.Past.{contents_after};
 ghost use Rattle.disk_memory.specs.Events.{change_of};
 ghost use Rattle.disk_memory.specs.OnDisk.{LiesInside, up_to_sync, IsInside, IsOther};
 
@@ -19,7 +19,8 @@ pub fn overwrite(all: &mut [u8], at: usize, bytes: &[u8])
 /// How many events there are up to the last sync, that one included.
 pub fn synced_count(events: &[Event]) -> usize
     ensures inside { result ≤ length events.now }
-    ensures synced { map change_of (take result events.now) ≡ up_to_sync (map change_of events.now) }
+    ensures synced { map change_of (take result events.now)
+        ≡ up_to_sync (map change_of events.now) }
 {
     for back in 0..events.len() {
         if let Event::Sync = &events[events.len() - 1 - back] {
@@ -32,7 +33,7 @@ pub fn synced_count(events: &[Event]) -> usize
 /// Makes the writes again.
 pub fn replay(events: &[Event], all: &mut [u8])
     requires { All (λ e. LiesInside (length all.old) (change_of e)) events.now }
-    ensures { all.new ≡ (held_after all.old (map change_of events.now)).bytes }
+    ensures { all.new ≡ (contents_after all.old (map change_of events.now)).bytes }
 {
     for event in events {
         match event {
@@ -58,7 +59,9 @@ fn change(image: &mut [u8], at: usize, size: usize, bytes: &[u8], synced: &[u8])
     requires synced { length synced.now ≡ length image.old }
     ensures length { length image.new ≡ length image.old }
     ensures inside { (i : ℕ) → at ≤ i → i < at + size → IsOther bytes.now synced.now image.new i }
-    ensures outside { (i : ℕ) → (i < at) ⊎ (at + size ≤ i) → slice_index image.new i ≡ slice_index image.old i }
+    ensures outside { (i : ℕ)
+        → (i < at) ⊎ (at + size ≤ i)
+        → slice_index image.new i ≡ slice_index image.old i }
 {
     for i in at..at + size {
         image[i] = other_than(bytes[i], synced[i]);
@@ -70,8 +73,12 @@ pub fn change_unsynced(events: &[Event], bytes: &[u8], synced: &[u8], image: &mu
     requires inside { All (λ e. LiesInside (length image.old) (change_of e)) events.now }
     requires bytes { length bytes.now ≡ length image.old }
     requires synced { length synced.now ≡ length image.old }
-    ensures outside { (first : List ℕ) → AgreesOutside (held_after first (map change_of events.now)).dirty image.old image.new }
-    ensures inside { (first : List ℕ) (i : ℕ) → IsInside (held_after first (map change_of events.now)).dirty i → IsOther bytes.now synced.now image.new i }
+    ensures outside { (first : List ℕ)
+        → AgreesOutside (contents_after first (map change_of events.now)).dirty
+            image.old image.new }
+    ensures inside { (first : List ℕ) (i : ℕ)
+        → IsInside (contents_after first (map change_of events.now)).dirty i
+        → IsOther bytes.now synced.now image.new i }
 {
     for back in 0..events.len() {
         match &events[events.len() - 1 - back] {

@@ -77,7 +77,8 @@ impl Sink for ByteSink {
     fn put(&mut self, bytes: &[u8]) -> Result<usize, SinkFailed>
         ensures bound { IfOk result (λ n. n ≤ length bytes.now) }
         ensures some { IfOk result (λ n. 0 < length bytes.now → 0 < n) }
-        ensures added { IfOk result (λ n. received_by self.new ≡ received_by self.old ++ take n bytes.now) }
+        ensures added { IfOk result
+            (λ n. received_by self.new ≡ received_by self.old ++ take n bytes.now) }
         ensures refused { OnErr result (received_by self.new ≡ received_by self.old) }
         ensures cause { HasCause (failed_puts self.old) (failed_puts self.new) result }
 

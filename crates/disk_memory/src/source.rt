@@ -83,7 +83,8 @@ impl Source for ByteSource {
         ensures fails { IsErr result ↔ Contains (chosen_takes self.old) 1 }
         ensures counted { failed_takes self.new ≡ counted result (failed_takes self.old) }
         ensures nearer { chosen_takes self.new ≡ after_a_call (chosen_takes self.old) }
-        ensures piece { IfOk result (λ n. n ≡ piece_of (take_limit self.old) (min (length out.old) (length (left_in self.old)))) }
+        ensures piece { IfOk result (λ n. n
+            ≡ piece_of (take_limit self.old) (min (length out.old) (length (left_in self.old)))) }
         ensures limit { take_limit self.new ≡ take_limit self.old }
     {
         if self.plan.is_next_chosen() {

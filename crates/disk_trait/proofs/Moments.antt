@@ -1,7 +1,6 @@
 -- How the moments of sections of calls join.
 use Rattle.std.proofs.Common.{inl, inr, ⊎_elim, ℕ, List, arith}
-use Rattle.disk_trait.specs.Disk.{Follows, Elapses}
-use Rattle.disk_trait.specs.Moments.{After, LeavesOnly}
+use Rattle.disk_trait.specs.Moments.{After, Always, Elapses, LeavesOnly}
 
 module _ {D : Type 0} (moment : D → ℕ) (left_since : D → ℕ → List ℕ → Type 0) where
   -- before the first call only the present moment counts
@@ -9,9 +8,9 @@ module _ {D : Type 0} (moment : D → ℕ) (left_since : D → ℕ → List ℕ 
   started old P here = record { later = omega arith; each = here; before = λ t c le left. inl left }
 
   -- one call more, after which a crash leaves what has P
-  pub goes_on : (old mid new : D) (P may_leave : List ℕ → Type 0) → LeavesOnly moment left_since old mid P → Elapses (moment mid) (moment new) (left_since mid) (left_since new) may_leave
-      → ((c : List ℕ) → may_leave c → P c) → LeavesOnly moment left_since old new P
-  goes_on old mid new P may_leave so_far time here = record {
+  pub goes_on : (may_leave : D → List ℕ → Type 0) (old mid new : D) (P : List ℕ → Type 0) → LeavesOnly moment left_since old mid P → Elapses moment left_since may_leave mid new
+      → Always (may_leave new) P → LeavesOnly moment left_since old new P
+  goes_on may_leave old mid new P so_far time here = record {
     later = omega (arith, so_far.later, time.later);
     each = λ c left. ⊎_elim (so_far.each c) (here c) (time.nothing_else (moment old) c so_far.later left);
     before = λ t c le left. ⊎_elim (so_far.before t c le) (λ now. inr (here c now)) (time.nothing_else t c (omega (arith, le, so_far.later)) left);
@@ -35,15 +34,15 @@ module _ {D : Type 0} (moment : D → ℕ) (left_since : D → ℕ → List ℕ 
   }
 
   -- a call that makes this step
-  pub stepped : (step : List ℕ → List ℕ → Type 0) (old new : D) (before now : List ℕ → Type 0) → ((c : List ℕ) → step c c) → ((c : List ℕ) → left_since old (moment old) c → before c)
-      → Elapses (moment old) (moment new) (left_since old) (left_since new) now → Follows step before now → LeavesOnly moment left_since old new (After step before)
-  stepped step old new before now still only time follows =
-      goes_on old old new (After step before) now (started old (After step before) (λ c left. (c, only c left, still c))) time follows
+  pub stepped : (may_leave : D → List ℕ → Type 0) (step : List ℕ → List ℕ → Type 0) (old new : D) → ((c : List ℕ) → step c c) → Always (left_since old (moment old)) (may_leave old)
+      → Elapses moment left_since may_leave old new → Always (may_leave new) (After step (may_leave old)) → LeavesOnly moment left_since old new (After step (may_leave old))
+  stepped may_leave step old new still only time follows =
+      goes_on may_leave old old new (After step (may_leave old)) (started old (After step (may_leave old)) (λ c left. (c, only c left, still c))) time follows
 
   -- a call after which a crash leaves nothing that it might not have left before
-  pub stayed : (old new : D) (before now : List ℕ → Type 0) → ((c : List ℕ) → left_since old (moment old) c → before c)
-      → Elapses (moment old) (moment new) (left_since old) (left_since new) now → ((c : List ℕ) → now c → before c) → LeavesOnly moment left_since old new before
-  stayed old new before now only time same = goes_on old old new before now (started old before only) time same
+  pub stayed : (may_leave : D → List ℕ → Type 0) (old new : D) → Always (left_since old (moment old)) (may_leave old) → Elapses moment left_since may_leave old new
+      → Always (may_leave new) (may_leave old) → LeavesOnly moment left_since old new (may_leave old)
+  stayed may_leave old new only time same = goes_on may_leave old old new (may_leave old) (started old (may_leave old) only) time same
 
   -- two facts of each moment are one
   pub both : (old new : D) (P Q R : List ℕ → Type 0) → LeavesOnly moment left_since old new P → LeavesOnly moment left_since old new Q → ((c : List ℕ) → P c → Q c → R c) → LeavesOnly moment left_since old new R

@@ -2,6 +2,7 @@
 use Rattle.std.proofs.Common.{◌≡◌, ◌<◌, ◌≤◌, ◌⊎◌, inl, inr, ◌+◌, ◌-◌, ◌*◌, ℕ, List, [], ◌∷◌, ◌++◌, length, take, drop, get_or, slice_index, refl, sym, ap, ◌∙◌, arith}
 use Rattle.std.proofs.lemmas.List.{take-take, drop-drop, drop-take, drop_at, take_at, length-take-le, length-drop, get_or-take, get_or-drop, ext_get_or}
 use Rattle.grid_types.specs.Pages.{page_of}
+use Rattle.grid_types.specs.declared.sizes.TheConstants.{PAGE_BYTES}
 use Rattle.disk_trait.specs.Disk.{Agrees, Holds}
 
 -- an image agrees with itself
@@ -34,8 +35,8 @@ part_apart at n from m c d (inl below) a = sym (drop-take from m d) ∙ ap (drop
 part_apart at n from m c d (inr above) a = ap (take m) (drop_past (at + n) from c d above a.after)
 
 -- a page that the range does not meet stays
-pub page_apart : (at n page : ℕ) (c d : List ℕ) → (page * 4096 + 4096 ≤ at) ⊎ (at + n ≤ page * 4096) → Agrees at n c d → page_of page d ≡ page_of page c
-page_apart at n page c d apart a = part_apart at n (page * 4096) 4096 c d apart a
+pub page_apart : (at n page : ℕ) (c d : List ℕ) → (page * PAGE_BYTES + PAGE_BYTES ≤ at) ⊎ (at + n ≤ page * PAGE_BYTES) → Agrees at n c d → page_of page d ≡ page_of page c
+page_apart at n page c d apart a = part_apart at n (page * PAGE_BYTES) PAGE_BYTES c d apart a
 
 -- a byte outside of the range stays
 pub byte_apart : (at n i : ℕ) (c d : List ℕ) → (i < at) ⊎ (at + n ≤ i) → Agrees at n c d → slice_index d i ≡ slice_index c i
@@ -70,8 +71,8 @@ part_written old at bytes new le h =
     ap (take (length bytes)) behind ∙ take_at bytes (drop (at + length bytes) old) (length bytes) refl
 
 -- a page that was written whole is what was written
-pub page_written : (old : List ℕ) (page : ℕ) (bytes new : List ℕ) → page * 4096 ≤ length old → length bytes ≡ 4096 → Holds old (page * 4096) bytes new → page_of page new ≡ bytes
-page_written old page bytes new le len h = ap (λ (n : ℕ). take n (drop (page * 4096) new)) (sym len) ∙ part_written old (page * 4096) bytes new le h
+pub page_written : (old : List ℕ) (page : ℕ) (bytes new : List ℕ) → page * PAGE_BYTES ≤ length old → length bytes ≡ PAGE_BYTES → Holds old (page * PAGE_BYTES) bytes new → page_of page new ≡ bytes
+page_written old page bytes new le len h = ap (λ (n : ℕ). take n (drop (page * PAGE_BYTES) new)) (sym len) ∙ part_written old (page * PAGE_BYTES) bytes new le h
 
 -- a byte that was written stands where it was written
 pub byte_written : (old : List ℕ) (at x : ℕ) (new : List ℕ) → at ≤ length old → Holds old at (x ∷ []) new → slice_index new at ≡ x
@@ -81,11 +82,11 @@ byte_written old at x new le h =
     ap (λ (k : ℕ). get_or new k 0) (sym s) ∙ sym (get_or-drop at new 0 0) ∙ ap (λ (xs : List ℕ). get_or xs 0 0) behind
 
 -- a byte of a page is a byte of the image
-pub byte_of_page : (page i : ℕ) (c : List ℕ) → i < 4096 → slice_index (page_of page c) i ≡ slice_index c (page * 4096 + i)
-byte_of_page page i c lt = get_or-take 4096 (drop (page * 4096) c) i 0 lt ∙ get_or-drop (page * 4096) c i 0
+pub byte_of_page : (page i : ℕ) (c : List ℕ) → i < PAGE_BYTES → slice_index (page_of page c) i ≡ slice_index c (page * PAGE_BYTES + i)
+byte_of_page page i c lt = get_or-take PAGE_BYTES (drop (page * PAGE_BYTES) c) i 0 lt ∙ get_or-drop (page * PAGE_BYTES) c i 0
 
 -- a part of a page is a part of the image
-pub part_of_page : (page from m : ℕ) (c : List ℕ) → from + m ≤ 4096 → take m (drop from (page_of page c)) ≡ take m (drop (page * 4096 + from) c)
+pub part_of_page : (page from m : ℕ) (c : List ℕ) → from + m ≤ PAGE_BYTES → take m (drop from (page_of page c)) ≡ take m (drop (page * PAGE_BYTES + from) c)
 part_of_page page from m c le =
-    sym (drop-take from m (page_of page c)) ∙ ap (drop from) (take-take (from + m) 4096 (drop (page * 4096) c) le) ∙ drop-take from m (drop (page * 4096) c)
-    ∙ ap (take m) (drop-drop from (page * 4096) c)
+    sym (drop-take from m (page_of page c)) ∙ ap (drop from) (take-take (from + m) PAGE_BYTES (drop (page * PAGE_BYTES) c) le) ∙ drop-take from m (drop (page * PAGE_BYTES) c)
+    ∙ ap (take m) (drop-drop from (page * PAGE_BYTES) c)

@@ -1,22 +1,29 @@
 -- What a bay has under its names, hands out and takes back.
-use Rattle.std.specs.Prelude.{replicate, ◌≡◌, ◌≤◌, ◌≢◌, ◌⊎◌, ◌↔◌, ℕ, List, Bool, IsTrue, Result, OnErr}
+use Rattle.std.specs.Prelude.{replicate, ◌≡◌, ◌≤◌, ◌≢◌, ◌⊎◌, ℕ, List, Bool, IsTrue, Result, OnErr}
+use Rattle.disk_trait.specs.declared.disk.Disk.{Ghosts}
 use Rattle.disk_trait.specs.Causes.{Rose}
+use Rattle.disk_trait.specs.Moments.{SameImages}
 
 -- under a name there is nothing, or a disk that is out, or a disk that lies there
-pub data Place (D : Type 0) : Type 0 where
-  Absent : Place D
-  Out : Place D
-  Home : D → Place D
+pub data BayPlace (D : Type 0) : Type 0 where
+  Absent : BayPlace D
+  Out : BayPlace D
+  Home : D → BayPlace D
 
 -- what is said of the disk that lies under a name, where one does
-abbrev pub Tells : {D : Type 0} → (D → Type 0) → Place D → Type 0
+abbrev pub Tells : {D : Type 0} → (D → Type 0) → BayPlace D → Type 0
 Tells P Absent = ⊥
 Tells P Out = ⊥
 Tells P (Home d) = P d
 
 -- nothing changed but what is under one name
-abbrev pub SameBut : {D : Type 0} → List ℕ → (List ℕ → Place D) → (List ℕ → Place D) → Type 0
+abbrev pub SameBut : {D : Type 0} → List ℕ → (List ℕ → BayPlace D) → (List ℕ → BayPlace D) → Type 0
 SameBut name old new = (other : List ℕ) → other ≢ name → new other ≡ old other
+
+-- a call at one name leaves the rest of a bay as it was: it tells its names or not, and nothing changed under another name
+pub record SameElsewhere {B D : Type 0} (tells_of : B → Bool) (place_of : B → List ℕ → BayPlace D) (name : List ℕ) (old new : B) : Type 0 where
+  pub tells : tells_of new ≡ tells_of old
+  pub others : IsTrue (tells_of old) → SameBut name (place_of old) (place_of new)
 
 -- a count does not fall, and a failure is told only where it rose, or where the name itself is the cause
 pub record HasNameCause {T E : Type 0} (named : Type 0) (before now : ℕ) (result : Result T E) : Type 0 where
@@ -27,17 +34,22 @@ pub record HasNameCause {T E : Type 0} (named : Type 0) (before now : ℕ) (resu
 unfoldable pub blank : ℕ → List ℕ
 blank n = replicate n 0
 
+-- no call of a disk has failed
+pub record IsUnfailed {D : Type 0} (g : Ghosts D) (disk : D) : Type 0 where
+  pub reads : g.read_count disk ≡ 0
+  pub writes : g.write_count disk ≡ 0
+
 -- a new disk tells its content, reads give n zeros, and no crash has ever left anything else
-pub record IsNew {D : Type 0} (honest : D → Bool) (seen : D → List ℕ) (left_since : D → ℕ → List ℕ → Type 0) (n : ℕ) (d : D) : Type 0 where
-  pub told : IsTrue (honest d)
-  pub zeros : seen d ≡ blank n
-  pub always : (t : ℕ) (c : List ℕ) → left_since d t c → c ≡ blank n
+pub record IsNew {D : Type 0} (g : Ghosts D) (n : ℕ) (disk : D) : Type 0 where
+  pub told : IsTrue (g.honest disk)
+  pub zeros : g.seen disk ≡ blank n
+  pub always : (t : ℕ) (c : List ℕ) → g.left_since disk t c → c ≡ blank n
 
 -- one disk tells all that another tells, its moments included
-pub record TellsAll {D : Type 0} (honest : D → Bool) (extent : D → ℕ) (seen : D → List ℕ) (may_leave : D → List ℕ → Type 0) (moment : D → ℕ) (left_since : D → ℕ → List ℕ → Type 0) (d e : D) : Type 0 where
-  pub same_honesty : honest d ≡ honest e
-  pub same_extent : extent d ≡ extent e
-  pub same_bytes : seen d ≡ seen e
-  pub same_crash : (c : List ℕ) → may_leave d c ↔ may_leave e c
-  pub same_moment : moment d ≡ moment e
-  pub same_past : (t : ℕ) (c : List ℕ) → left_since d t c ↔ left_since e t c
+pub record TellsAll {D : Type 0} (g : Ghosts D) (disk other : D) : Type 0 where
+  pub same_honesty : g.honest disk ≡ g.honest other
+  pub same_extent : g.extent disk ≡ g.extent other
+  pub same_bytes : g.seen disk ≡ g.seen other
+  pub same_crash : SameImages (g.may_leave other) (g.may_leave disk)
+  pub same_moment : g.moment disk ≡ g.moment other
+  pub same_past : (t : ℕ) → SameImages (g.left_since other t) (g.left_since disk t)

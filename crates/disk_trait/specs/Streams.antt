@@ -8,6 +8,6 @@ pub record Takes (old new out : List ℕ) (n : ℕ) : Type 0 where
   pub left : new ≡ drop n old
 
 -- a sink has received a front of these bytes beside what it had
-pub record Adds (old new bytes : List ℕ) : Type 0 where
+pub record AddsFront (old new bytes : List ℕ) : Type 0 where
   pub count : ℕ
   pub added : new ≡ old ++ take count bytes

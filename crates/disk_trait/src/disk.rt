@@ -1,10 +1,13 @@
 //! A disk, as its callers see it.
-ghost use Rattle.std.specs.Prelude.{◌≡◌, ◌+◌, ◌*◌, ◌≤◌, ◌↔◌, Bool, List, ℕ, IsTrue, length, OnOk, OnErr};
+ghost use Rattle.std.specs.Prelude.{◌≡◌, ◌+◌, ◌*◌, ◌≤◌, Bool, List, ℕ, IsTrue, length, OnOk, OnErr};
+ghost use Rattle.grid_types.specs.declared.sizes.TheConstants.{PAGE_BYTES};
 ghost use Rattle.disk_trait.specs.Causes.{HasCause};
 ghost use Rattle.grid_types.specs.Pages.{page_of};
-ghost use Rattle.disk_trait.specs.Disk.{Only, Follows, Agrees, Holds, Elapses, InOnePage};
+ghost use Rattle.disk_trait.specs.Disk.{Only, Agrees, Holds, InOnePage};
+ghost use Rattle.disk_trait.specs.Moments.{After, Always, Elapses, SameImages};
 
 use crate::Steps;
+use grid_types::PAGE_BYTES;
 use std::sync::ledger::Ledger;
 use thiserror::Error;
 
@@ -49,15 +52,18 @@ pub trait Disk: Drop {
     fn read<L: Ledger>(
         &mut self,
         page: u64,
-        out: &mut [u8; 4096],
+        out: &mut [u8; PAGE_BYTES],
         steps: &mut Steps<L>,
     ) -> Result<(), DiskFailed>
-        requires { page * 4096 + 4096 ≤ extent self.old }
+        requires { page * PAGE_BYTES + PAGE_BYTES ≤ extent self.old }
         ensures ticks { steps.new ≡ steps.old + 1 }
-        ensures bytes { IsTrue (honest self.old) → OnOk result (out.new ≡ page_of page (seen self.old)) }
+        ensures bytes { IsTrue (honest self.old)
+            → OnOk result (out.new ≡ page_of page (seen self.old)) }
         ensures seen { IsTrue (honest self.old) → seen self.new ≡ seen self.old }
-        ensures crash { IsTrue (honest self.old) → (c : List ℕ) → may_leave self.new c ↔ may_leave self.old c }
-        ensures time { IsTrue (honest self.old) → Elapses (moment self.old) (moment self.new) (left_since self.old) (left_since self.new) (may_leave self.new) }
+        ensures crash { IsTrue (honest self.old)
+            → SameImages (may_leave self.old) (may_leave self.new) }
+        ensures time { IsTrue (honest self.old)
+            → Elapses moment left_since may_leave self.old self.new }
         ensures extent { extent self.new ≡ extent self.old }
         ensures honest { honest self.new ≡ honest self.old }
         ensures cause { HasCause (read_count self.old) (read_count self.new) result }
@@ -67,10 +73,15 @@ pub trait Disk: Drop {
     /// also where the write fails; a write that fails leaves some bytes there, the same at each read.
     fn write(&mut self, at: u64, bytes: &[u8]) -> Result<(), DiskFailed>
         requires { InOnePage at (length bytes.now) (extent self.old) }
-        ensures written { IsTrue (honest self.old) → OnOk result (Holds (seen self.old) at bytes.now (seen self.new)) }
-        ensures outside { IsTrue (honest self.old) → Agrees at (length bytes.now) (seen self.old) (seen self.new) }
-        ensures crash { IsTrue (honest self.old) → Follows (Agrees at (length bytes.now)) (may_leave self.old) (may_leave self.new) }
-        ensures time { IsTrue (honest self.old) → Elapses (moment self.old) (moment self.new) (left_since self.old) (left_since self.new) (may_leave self.new) }
+        ensures written { IsTrue (honest self.old)
+            → OnOk result (Holds (seen self.old) at bytes.now (seen self.new)) }
+        ensures outside { IsTrue (honest self.old)
+            → Agrees at (length bytes.now) (seen self.old) (seen self.new) }
+        ensures crash { IsTrue (honest self.old)
+            → Always (may_leave self.new)
+            (After (Agrees at (length bytes.now)) (may_leave self.old)) }
+        ensures time { IsTrue (honest self.old)
+            → Elapses moment left_since may_leave self.old self.new }
         ensures extent { extent self.new ≡ extent self.old }
         ensures honest { honest self.new ≡ honest self.old }
         ensures cause { HasCause (write_count self.old) (write_count self.new) result }
@@ -78,11 +89,15 @@ pub trait Disk: Drop {
 
     /// Puts what reads give on the disk for good. Where it fails, what a crash may leave stays as it was.
     fn sync(&mut self) -> Result<(), DiskFailed>
-        ensures durable { IsTrue (honest self.old) → OnOk result (Only (seen self.old) (may_leave self.new)) }
+        ensures durable { IsTrue (honest self.old)
+            → OnOk result (Only (seen self.old) (may_leave self.new)) }
         ensures seen { IsTrue (honest self.old) → seen self.new ≡ seen self.old }
-        ensures crash { IsTrue (honest self.old) → (c : List ℕ) → may_leave self.new c → may_leave self.old c }
-        ensures stays { IsTrue (honest self.old) → OnErr result ((c : List ℕ) → may_leave self.old c → may_leave self.new c) }
-        ensures time { IsTrue (honest self.old) → Elapses (moment self.old) (moment self.new) (left_since self.old) (left_since self.new) (may_leave self.new) }
+        ensures crash { IsTrue (honest self.old)
+            → Always (may_leave self.new) (may_leave self.old) }
+        ensures stays { IsTrue (honest self.old)
+            → OnErr result (Always (may_leave self.old) (may_leave self.new)) }
+        ensures time { IsTrue (honest self.old)
+            → Elapses moment left_since may_leave self.old self.new }
         ensures extent { extent self.new ≡ extent self.old }
         ensures honest { honest self.new ≡ honest self.old }
         ensures cause { HasCause (write_count self.old) (write_count self.new) result }
@@ -103,8 +118,15 @@ pub trait Disk: Drop {
     ghost seen_now: { (d : Self) → IsTrue (honest d) → may_leave d (seen d) };
 
     /// This moment is one of those since an earlier one.
-    ghost counts_now: { (d : Self) (t : ℕ) (c : List ℕ) → IsTrue (honest d) → t ≤ moment d → may_leave d c → left_since d t c };
+    ghost counts_now: { (d : Self) (t : ℕ) (c : List ℕ)
+        → IsTrue (honest d)
+        → t ≤ moment d
+        → may_leave d c
+        → left_since d t c };
 
     /// Since this moment there is no other.
-    ghost only_now: { (d : Self) (c : List ℕ) → IsTrue (honest d) → left_since d (moment d) c → may_leave d c };
+    ghost only_now: { (d : Self) (c : List ℕ)
+        → IsTrue (honest d)
+        → left_since d (moment d) c
+        → may_leave d c };
 }

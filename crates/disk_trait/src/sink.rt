@@ -1,7 +1,7 @@
 //! Where output goes.
 ghost use Rattle.std.specs.Prelude.{◌≡◌, ◌<◌, ◌≤◌, ◌++◌, Bool, List, ℕ, IsTrue, length, take, IfOk, OnOk, OnErr};
 ghost use Rattle.disk_trait.specs.Causes.{HasCause};
-ghost use Rattle.disk_trait.specs.Streams.{Adds};
+ghost use Rattle.disk_trait.specs.Streams.{AddsFront};
 
 use thiserror::Error;
 
@@ -26,8 +26,10 @@ pub trait Sink {
     fn put(&mut self, bytes: &[u8]) -> Result<usize, SinkFailed>
         ensures bound { IfOk result (λ n. n ≤ length bytes.now) }
         ensures some { IfOk result (λ n. 0 < length bytes.now → 0 < n) }
-        ensures added { IsTrue (tells self.old) → IfOk result (λ n. received self.new ≡ received self.old ++ take n bytes.now) }
-        ensures refused { IsTrue (tells self.old) → OnErr result (received self.new ≡ received self.old) }
+        ensures added { IsTrue (tells self.old)
+            → IfOk result (λ n. received self.new ≡ received self.old ++ take n bytes.now) }
+        ensures refused { IsTrue (tells self.old)
+            → OnErr result (received self.new ≡ received self.old) }
         ensures tells { tells self.new ≡ tells self.old }
         ensures cause { HasCause (fault_count self.old) (fault_count self.new) result };
 
@@ -38,17 +40,16 @@ pub trait Sink {
 
 /// Gives all of the bytes. Where it fails the sink has received a front of them.
 pub fn put_all<O: Sink>(out: &mut O, bytes: &[u8]) -> Result<(), SinkFailed>
-    ensures added { IsTrue (O.tells out.old) → OnOk result (O.received out.new ≡ O.received out.old ++ bytes.now) }
-    ensures front { IsTrue (O.tells out.old) → Adds (O.received out.old) (O.received out.new) bytes.now }
+    ensures added { IsTrue (O.tells out.old)
+        → OnOk result (O.received out.new ≡ O.received out.old ++ bytes.now) }
+    ensures front { IsTrue (O.tells out.old)
+        → AddsFront (O.received out.old) (O.received out.new) bytes.now }
     ensures tells { O.tells out.new ≡ O.tells out.old }
     ensures cause { HasCause (O.fault_count out.old) (O.fault_count out.new) result }
 {
     let mut at = 0;
     while at < bytes.len() {
-        match out.put(&bytes[at..]) {
-            Ok(count) => at += count,
-            Err(SinkFailed) => return Err(SinkFailed),
-        }
+        at += out.put(&bytes[at..])?;
     }
     Ok(())
 }

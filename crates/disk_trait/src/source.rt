@@ -26,8 +26,10 @@ pub trait Source {
     /// input. A failure takes none.
     fn take(&mut self, out: &mut [u8]) -> Result<usize, SourceFailed>
         ensures bound { IfOk result (λ n. n ≤ length out.old) }
-        ensures taken { IsTrue (tells self.old) → IfOk result (Takes (left self.old) (left self.new) out.new) }
-        ensures end { IsTrue (tells self.old) → IfOk result (λ n. n ≡ 0 → 0 < length out.old → left self.old ≡ []) }
+        ensures taken { IsTrue (tells self.old)
+            → IfOk result (Takes (left self.old) (left self.new) out.new) }
+        ensures end { IsTrue (tells self.old)
+            → IfOk result (λ n. n ≡ 0 → 0 < length out.old → left self.old ≡ []) }
         ensures refused { IsTrue (tells self.old) → OnErr result (left self.new ≡ left self.old) }
         ensures tells { tells self.new ≡ tells self.old }
         ensures cause { HasCause (fault_count self.old) (fault_count self.new) result };

@@ -1,5 +1,5 @@
 -- In a page stands one batch at most, and one that stands there is lawful where its fields are.
-use Rattle.std.proofs.Common.{◌≡◌, ◌≤◌, ◌+◌, ◌*◌, ℕ, Bool, true, false, List, length, drop, get_or, slice_index, refl, sym, ap, subst, ◌∙◌, arith}
+use Rattle.std.proofs.Common.{◌≡◌, ◌<◌, ◌≤◌, ◌+◌, ◌*◌, ◌^◌, ℕ, Bool, true, false, List, length, drop, get_or, slice_index, refl, sym, ap, subst, ◌∙◌, arith}
 use Rattle.std.specs.Prelude.{cond}
 use Rattle.std.proofs.lemmas.List.{same_lists}
 use Rattle.grid_types.specs.declared.layout_change.Cut.{Cut}
@@ -8,11 +8,12 @@ use Rattle.grid_types.specs.declared.layout_change.LayoutChange.TheVariants as n
 use Rattle.grid_types.specs.declared.layout_change.LoggedUpdate.{LoggedUpdate}
 use Rattle.grid_types.specs.declared.update.Update.{Update}
 use Rattle.grid_types.specs.declared.update.Update.TheVariants.{Put, Remove}
+use Rattle.page_fields.specs.Fields.{number}
 use Rattle.page_fields.proofs.Places.{one_corner}
 use Rattle.grid_model.proofs.Corners.{corner-is-key, few-taken}
 use Rattle.grid_model.specs.Spellings.{LoggedBatch}
 use Rattle.grid_model.specs.Lawful.{IsUpdateOf, StandsWith, IsBatch}
-use Rattle.journal_slots.specs.Reading.{CutAt, NoteAt, ChangeAt, NotedAt, BatchAt, NoteFits, IsLawful}
+use Rattle.journal_slots.specs.Reading.{CutAt, NoteAt, ChangeAt, NotedAt, UpdatesAt, BatchAt, NoteFits, AreLawfulFields}
 
 -- the code of a cut tells whether its boundary is fresh
 abbrev cut_code : Bool → ℕ
@@ -55,7 +56,7 @@ one_change K page at (Put r) (Put s) x y =
 one_change K page at (Put r) (Remove k) x y = absurd (omega (arith, x.kind, y.kind))
 one_change K page at (Remove k) (Put r) x y = absurd (omega (arith, x.kind, y.kind))
 one_change K page at (Remove k) (Remove m) x y =
-    let key : k.numbers ≡ m.at = one_corner K page (at + 16) m.at k.numbers y.key_is x.key_is in
+    let key : k.numbers ≡ m.numbers = one_corner K page (at + 16) m.numbers k.numbers y.key_is x.key_is in
     λ i. Remove (record { numbers = key i })
 
 one_noted : (K : ℕ) (page : List ℕ) (at : ℕ) (u v : LoggedUpdate K) → NotedAt K page at u → NotedAt K page at v → u ≡ v
@@ -73,6 +74,11 @@ one_batch K page a b x y =
     one_noted K page (96 + 96 * i) (get_or a.updates i d) (get_or b.updates i d) (x.updates i d lt) (y.updates i d (omega (arith, long, lt)))) in
     λ i. record { session = session i; first = first i; updates = updates i }
 
+-- a batch stands in a page where its fields were read
+pub batch_read : (K : ℕ) (page : List ℕ) (session first count : ℕ) (updates : List (LoggedUpdate K)) → session ≡ number 8 (drop 8 page) → session < 2 ^ 64 → first ≡ number 8 (drop 16 page) → length updates ≡ count → count ≡ number 2 (drop 4 page) → UpdatesAt K page updates
+    → BatchAt K page (record { session = session; first = first; updates = updates })
+batch_read K page session first count updates session_is in_range first_is long count_is each = record { session = session_is; in_range = in_range; first = first_is; count = long ∙ count_is; updates = each }
+
 -- lawful fields
 change_fits : (K : ℕ) (page : List ℕ) (at : ℕ) (u : Update K) → ChangeAt K page at u → IsUpdateOf K u
 change_fits K page at (Put r) x = record {
@@ -89,8 +95,8 @@ note_fits K page at (Put r) (note.Merge m) x f = absurd f
 note_fits K page at (Remove k) (note.Merge m) x f = x.bucket_in_range
 
 -- a batch that stands in a page is lawful where its fields are
-pub made : (K : ℕ) (page : List ℕ) (b : LoggedBatch K) → BatchAt K page b → length b.updates ≤ 16 → IsLawful b → IsBatch b
-made K page b read few lawful = record {
+pub read_batch_lawful : (K : ℕ) (page : List ℕ) (b : LoggedBatch K) → BatchAt K page b → length b.updates ≤ 16 → AreLawfulFields b → IsBatch b
+read_batch_lawful K page b read few lawful = record {
   some = lawful.some;
   few = few;
   session = read.in_range;
@@ -112,5 +118,5 @@ fits_there (Remove k) (note.Cut c right) s = s
 fits_there (Put r) (note.Merge m) s = s
 fits_there (Remove k) (note.Merge m) s = tt
 
-pub lawful_of : {K : ℕ} (b : LoggedBatch K) → IsBatch b → IsLawful b
-lawful_of b fits = record { some = fits.some; first = fits.first; last = fits.last; notes = λ i d h. fits_there (get_or b.updates i d).update (get_or b.updates i d).note (fits.updates i d h).note }
+pub lawful_fields : {K : ℕ} (b : LoggedBatch K) → IsBatch b → AreLawfulFields b
+lawful_fields b fits = record { some = fits.some; first = fits.first; last = fits.last; notes = λ i d h. fits_there (get_or b.updates i d).update (get_or b.updates i d).note (fits.updates i d h).note }

@@ -5,3 +5,4 @@ pub mod GatePages
 pub mod Stages
 pub mod OpenSlots
 pub mod OneScan
+pub mod Refused

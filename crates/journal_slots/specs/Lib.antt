@@ -2,5 +2,5 @@ pub mod Batches
 pub mod Reading
 pub mod Laws
 pub mod Gates
-pub mod Publishing
+pub mod Committing
 pub mod Scans

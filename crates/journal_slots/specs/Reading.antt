@@ -7,7 +7,8 @@ use Rattle.grid_types.specs.declared.layout_change.LoggedUpdate.{LoggedUpdate}
 use Rattle.grid_types.specs.declared.update.Record.{Record}
 use Rattle.grid_types.specs.declared.update.Update.{Update}
 use Rattle.grid_types.specs.declared.update.Update.TheVariants.{Put, Remove}
-use Rattle.grid_types.specs.declared.data.TheConstants.{LONGEST}
+use Rattle.grid_types.specs.declared.sizes.TheConstants.{HEAD_BYTES, UPDATE_BYTES, LONGEST_DATA}
+use Rattle.journal_slots.specs.declared.lawful.TheConstants.{LAST_PLACE}
 use Rattle.page_fields.specs.Fields.{number}
 use Rattle.page_fields.specs.Corners.{CornerAt}
 use Rattle.grid_model.specs.Spellings.{LoggedBatch}
@@ -38,7 +39,7 @@ pub record PutAt (K : ℕ) (page : List ℕ) (at : ℕ) (r : Record K) : Type 0 
   pub kind : slice_index page at ≡ 1
   pub key : CornerAt K page (at + 16) r.key.numbers
   pub value : r.value ≡ take (slice_index page (at + 3)) (drop (at + 48) page)
-  pub short : slice_index page (at + 3) ≤ LONGEST
+  pub short : slice_index page (at + 3) ≤ LONGEST_DATA
 
 -- a remove stands in the bytes of an update: its kind and its key
 pub record RemoveAt (K : ℕ) (page : List ℕ) (at : ℕ) (key : List ℕ) : Type 0 where
@@ -57,7 +58,7 @@ pub record NotedAt (K : ℕ) (page : List ℕ) (at : ℕ) (u : LoggedUpdate K) :
 
 -- the updates stand one behind the other, from the end of the head on
 abbrev pub UpdatesAt : (K : ℕ) → List ℕ → List (LoggedUpdate K) → Type 0
-UpdatesAt K page us = (i : ℕ) (d : LoggedUpdate K) → i < length us → NotedAt K page (96 + 96 * i) (get_or us i d)
+UpdatesAt K page us = (i : ℕ) (d : LoggedUpdate K) → i < length us → NotedAt K page (HEAD_BYTES + UPDATE_BYTES * i) (get_or us i d)
 
 -- a batch stands in a page: each field at its offset
 pub record BatchAt (K : ℕ) (page : List ℕ) (b : LoggedBatch K) : Type 0 where
@@ -81,8 +82,8 @@ abbrev pub AllNotesFit : {K : ℕ} → List (LoggedUpdate K) → Type 0
 AllNotesFit {K} us = (i : ℕ) (d : LoggedUpdate K) → i < length us → NoteFits (get_or us i d).update (get_or us i d).note
 
 -- the fields of a batch are lawful, beside the ranges of their types: it has an update, its place is in its limits, and each note fits
-pub record IsLawful {K : ℕ} (b : LoggedBatch K) : Type 0 where
+pub record AreLawfulFields {K : ℕ} (b : LoggedBatch K) : Type 0 where
   pub some : 1 ≤ length b.updates
   pub first : 1 ≤ b.first
-  pub last : b.first ≤ 9223372036854775792
+  pub last : b.first ≤ LAST_PLACE
   pub notes : AllNotesFit b.updates

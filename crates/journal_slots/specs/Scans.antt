@@ -46,8 +46,8 @@ pub record IsBadSlot (K : ℕ) (s : Shape) (image : List ℕ) (half page : ℕ) 
   pub first : IsFirstBadSlot K s image half gates page
 
 -- a page is the first bad one of a half: its gate page, or else a page of an open slot
-abbrev pub IsFirstBad : (K : ℕ) → Shape → List ℕ → ℕ → ℕ → Type 0
-IsFirstBad K s image half page = IsBadGates s image half page ⊎ IsBadSlot K s image half page
+abbrev pub IsFirstBadPage : (K : ℕ) → Shape → List ℕ → ℕ → ℕ → Type 0
+IsFirstBadPage K s image half page = IsBadGates s image half page ⊎ IsBadSlot K s image half page
 
 -- a page spells a batch, and after it these batches are those from before, with that one behind them where it is of the session
 pub record IsMore {K : ℕ} (bytes : List ℕ) (session : ℕ) (before after : List (LoggedBatch K)) : Type 0 where

@@ -1,14 +1,14 @@
 //! Batches.
 
 use arrayvec::ArrayVec;
-use grid_types::LoggedUpdate;
+use grid_types::{LoggedUpdate, MOST_UPDATES};
 
-/// Up to 16 updates that count together or not at all, in the order of their places.
+/// Updates that count together or not at all, in the order of their places.
 #[derive(Drop)]
 pub struct Batch<const K: usize> {
     /// The session that writes it.
     pub session: u64,
     /// The place of the first update.
     pub first: u64,
-    pub updates: ArrayVec<LoggedUpdate<K>, 16>,
+    pub updates: ArrayVec<LoggedUpdate<K>, MOST_UPDATES>,
 }

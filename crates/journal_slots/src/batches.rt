@@ -37,10 +37,8 @@ impl<const K: usize> Batches<K> {
         ensures added { OnOk result (self.new ≡ self.old ++ batch_of batch.entry ∷ []) }
         ensures refused { OnErr result (self.new ≡ self.old) }
     {
-        match self.list.push(batch) {
-            Ok(()) => Ok(()),
-            Err(_) => Err(AllocError),
-        }
+        self.list.push(batch)?;
+        Ok(())
     }
 
     /// The batches, in order.

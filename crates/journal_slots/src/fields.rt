@@ -1,6 +1,6 @@
 //! The fields that an update and its note have in a page.
 ghost use Rattle.std.specs.Prelude.{◌≡◌, ◌≤◌, length};
-ghost use Rattle.grid_types.specs.declared.data.TheConstants.{LONGEST};
+ghost use Rattle.grid_types.specs.declared.sizes.TheConstants.{LONGEST_DATA};
 ghost use Rattle.grid_model.specs.Notes.{updated_key};
 ghost use Rattle.grid_model.specs.Spellings.{update_code, update_data, note_code, note_attribute, note_bucket, note_boundary};
 
@@ -18,7 +18,7 @@ pub fn kind<const K: usize>(update: &Update<K>) -> u8
 
 /// The key that the update changes.
 pub fn key<const K: usize>(update: &Update<K>) -> &Key<K>
-    ensures { result.now.at ≡ updated_key update.now }
+    ensures { result.now.numbers ≡ updated_key update.now }
 {
     match update {
         Update::Put(row) => &row.key,
@@ -29,7 +29,7 @@ pub fn key<const K: usize>(update: &Update<K>) -> &Key<K>
 /// The data of a put; a remove has none.
 pub fn bytes<const K: usize>(update: &Update<K>) -> &[u8]
     ensures value { result.now ≡ update_data update.now }
-    ensures short { length (update_data update.now) ≤ LONGEST }
+    ensures short { length (update_data update.now) ≤ LONGEST_DATA }
 {
     match update {
         Update::Put(row) => row.value.bytes(),

@@ -1,13 +1,13 @@
 //! Whether the fields of a batch are lawful.
 ghost use Rattle.std.specs.Prelude.{◌↔◌, IsTrue};
 ghost use Rattle.journal_slots.specs.Batches.{batch_of};
-ghost use Rattle.journal_slots.specs.Reading.{NoteFits, AllNotesFit, IsLawful};
+ghost use Rattle.journal_slots.specs.Reading.{NoteFits, AllNotesFit, AreLawfulFields};
 
 use crate::Batch;
 use grid_types::{LayoutChange, LoggedUpdate, Update};
 
 /// The last place at which a batch may begin.
-const LAST: u64 = 9_223_372_036_854_775_792;
+const LAST_PLACE: u64 = 9_223_372_036_854_775_792;
 
 fn fits<const K: usize>(noted: &LoggedUpdate<K>) -> bool
     ensures { IsTrue result ↔ NoteFits noted.now.update noted.now.note }
@@ -39,10 +39,10 @@ fn all_fit<const K: usize>(updates: &[LoggedUpdate<K>]) -> bool
 
 /// Whether the fields of the batch are lawful, beside the ranges of their types.
 pub fn is_lawful<const K: usize>(batch: &Batch<K>) -> bool
-    ensures { IsTrue result ↔ IsLawful (batch_of batch.now) }
+    ensures { IsTrue result ↔ AreLawfulFields (batch_of batch.now) }
 {
     batch.updates.len() >= 1
         && batch.first >= 1
-        && batch.first <= LAST
+        && batch.first <= LAST_PLACE
         && all_fit(batch.updates.as_slice())
 }

@@ -3,11 +3,11 @@
 
 mod batch;
 mod batches;
+mod committing;
 mod fields;
 mod gates;
 mod lawful;
 mod laws;
-mod publishing;
 mod reading;
 mod scanning;
 mod sections;
@@ -15,9 +15,9 @@ mod writing;
 
 pub use batch::Batch;
 pub use batches::Batches;
+pub use committing::commit_batch;
 pub use gates::{encode_gates, is_gate_page};
 pub use laws::spelling_law;
-pub use publishing::publish_batch;
 pub use reading::decode;
 pub use scanning::scan_half;
 pub use sections::{clear_half, open_gate, write_batch};

@@ -1,19 +1,20 @@
 //! The batches of a half of the journal.
-ghost use Rattle.std.specs.Prelude.{◌≡◌, ◌<◌, ◌≤◌, ◌+◌, ◌*◌, [], List, ℕ, IsTrue, IfOk, IfErr, OnOk, IsErrOf, length};
-ghost use Rattle.grid_types.specs.declared.refusal.Refusal.TheVariants.{ReadFault, Damaged, NoMemory};
+ghost use Rattle.std.specs.Prelude.{◌≡◌, ◌≤◌, ◌+◌, ◌*◌, [], List, ℕ, IsTrue, IfOk, OnOk, IsErrOf, length};
+ghost use Rattle.grid_types.specs.declared.refusal.Refusal.TheVariants.{Damaged, NoMemory};
+ghost use Rattle.grid_types.specs.declared.sizes.TheConstants.{PAGE_BYTES, MOST_SLOTS};
+ghost use Rattle.grid_types.specs.Halves.{half_number};
 ghost use Rattle.grid_types.specs.Pages.{page_of};
-ghost use Rattle.grid_types.specs.Shapes.{file_pages, slot_page};
-ghost use Rattle.disk_trait.specs.Causes.{Rose};
-ghost use Rattle.disk_trait.specs.Calls.{OnlyReads};
+ghost use Rattle.grid_types.specs.Shapes.{file_pages};
+ghost use Rattle.disk_trait.specs.Calls.{OnlyReads, HasCauses};
 ghost use Rattle.grid_model.specs.Spellings as model;
 ghost use Rattle.grid_model.specs.Images.{HasGatesOf, open_slots_of};
-ghost use Rattle.journal_slots.specs.Scans.{AreBatchesOn, IsScan, SpellsSome, IsFirstBadSlot, IsFirstBad, IsRefusalOfScan, IsMore, SpellsOf, IsToKeep, WantsMemory};
+ghost use Rattle.journal_slots.specs.Scans.{AreBatchesOn, IsScan, SpellsSome, IsFirstBadSlot, IsFirstBadPage, IsRefusalOfScan, IsMore, SpellsOf, IsToKeep, WantsMemory};
 
 use crate::gates::{is_gate_page, is_open};
 use crate::{Batches, decode};
 use disk_trait::{Disk, Steps, read_page};
-use grid_types::{Geometry, Refusal};
-use std::alloc::{AllocError, Global};
+use grid_types::{Geometry, HEAD_BYTES, Half, PAGE_BYTES, Refusal};
+use std::alloc::Global;
 use std::sync::ledger::Ledger;
 
 /// Adds the batch of a slot to those that were found, if it is of the session.
@@ -25,54 +26,59 @@ fn scan_slot<const K: usize, D: Disk, L: Ledger>(
     steps: &mut Steps<L>,
 ) -> Result<(), Refusal>
     requires few { K ≤ 4 }
-    requires size { page * 4096 + 4096 ≤ D.extent disk.old }
-    ensures found { IsTrue (D.honest disk.old) → OnOk result (IsMore (page_of page (D.seen disk.old)) session found.old found.new) }
-    ensures damaged { IsTrue (D.honest disk.old) → (p : ℕ) → IsErrOf result (Damaged p) → (p ≡ page) × (SpellsSome K (page_of page (D.seen disk.old)) → ⊥) }
-    ensures no_memory { IsTrue (D.honest disk.old) → IsErrOf result NoMemory → SpellsOf K (page_of page (D.seen disk.old)) session }
-    ensures read_fault { IsErrOf result ReadFault → Rose (D.read_count disk.old) (D.read_count disk.new) }
-    ensures no_other { IfErr result IsRefusalOfScan }
+    requires size { page * PAGE_BYTES + PAGE_BYTES ≤ D.extent disk.old }
+    ensures found { IsTrue (D.honest disk.old)
+        → OnOk result (IsMore (page_of page (D.seen disk.old)) session found.old found.new) }
+    ensures damaged { IsTrue (D.honest disk.old)
+        → (p : ℕ)
+        → IsErrOf result (Damaged p)
+        → (p ≡ page) × (SpellsSome K (page_of page (D.seen disk.old)) → ⊥) }
+    ensures no_memory { IsTrue (D.honest disk.old)
+        → IsErrOf result NoMemory
+        → SpellsOf K (page_of page (D.seen disk.old)) session }
+    ensures causes { HasCauses D.Disk IsRefusalOfScan disk.old disk.new result }
     ensures ticks { steps.new ≡ steps.old + 1 }
     ensures same { OnlyReads D.Disk disk.old disk.new }
 {
-    let mut bytes = [0; 4096];
-    match read_page(disk, page as u64, &mut bytes, steps) {
-        Ok(()) => {}
-        Err(why) => return Err(why),
-    }
+    let mut bytes = [0; PAGE_BYTES];
+    read_page(disk, page as u64, &mut bytes, steps)?;
     let Some(batch) = decode(&bytes) else {
         return Err(Refusal::Damaged { page });
     };
     if batch.session != session {
         return Ok(());
     }
-    match found.push(batch) {
-        Ok(()) => Ok(()),
-        Err(AllocError) => Err(Refusal::NoMemory),
-    }
+    found.push(batch).map_err(|_| Refusal::NoMemory)
 }
 
 /// The batches of the session on the slots of a half whose gates are open, in order.
 fn scan_slots<const K: usize, D: Disk, L: Ledger>(
     disk: &mut D,
     geometry: &Geometry,
-    half: u8,
+    half: Half,
     gates: &[u8],
     session: u64,
     found: &mut Batches<K>,
     steps: &mut Steps<L>,
 ) -> Result<(), Refusal>
-    requires two { half < 2 }
-    requires size { file_pages geometry.now.shape * 4096 ≤ D.extent disk.old }
+    requires size { file_pages geometry.now.shape * PAGE_BYTES ≤ D.extent disk.old }
     requires few { K ≤ 4 }
     requires gates { length gates.now ≡ geometry.now.shape.slots }
     requires empty { found.old ≡ [] }
-    ensures found { IsTrue (D.honest disk.old) → OnOk result (AreBatchesOn geometry.now.shape (D.seen disk.old) (open_slots_of gates.now half) session found.new) }
-    ensures damaged { IsTrue (D.honest disk.old) → (p : ℕ) → IsErrOf result (Damaged p) → IsFirstBadSlot K geometry.now.shape (D.seen disk.old) half gates.now p }
-    ensures no_memory { IsTrue (D.honest disk.old) → IsErrOf result NoMemory → IsToKeep K geometry.now.shape (D.seen disk.old) half gates.now session }
-    ensures read_fault { IsErrOf result ReadFault → Rose (D.read_count disk.old) (D.read_count disk.new) }
-    ensures no_other { IfErr result IsRefusalOfScan }
+    ensures found { IsTrue (D.honest disk.old)
+        → OnOk result (AreBatchesOn geometry.now.shape (D.seen disk.old)
+        (open_slots_of gates.now (half_number half)) session found.new) }
+    ensures damaged { IsTrue (D.honest disk.old)
+        → (p : ℕ)
+        → IsErrOf result (Damaged p)
+        → IsFirstBadSlot K geometry.now.shape (D.seen disk.old) (half_number half) gates.now p }
+    ensures no_memory { IsTrue (D.honest disk.old)
+        → IsErrOf result NoMemory
+        → IsToKeep K geometry.now.shape (D.seen disk.old) (half_number half) gates.now session }
+    ensures causes { HasCauses D.Disk IsRefusalOfScan disk.old disk.new result }
     ensures ticks { steps.old ≤ steps.new }
-    ensures all { OnOk result (steps.new ≡ steps.old + length (open_slots_of gates.now half)) }
+    ensures all { OnOk result
+        (steps.new ≡ steps.old + length (open_slots_of gates.now (half_number half))) }
     ensures most { steps.new ≤ steps.old + geometry.now.shape.slots }
     ensures same { OnlyReads D.Disk disk.old disk.new }
 {
@@ -81,10 +87,7 @@ fn scan_slots<const K: usize, D: Disk, L: Ledger>(
             continue;
         }
         let page = geometry.slot_page(half, slot);
-        match scan_slot(disk, page, session, found, steps) {
-            Ok(()) => {}
-            Err(why) => return Err(why),
-        }
+        scan_slot(disk, page, session, found, steps)?;
     }
     Ok(())
 }
@@ -92,7 +95,7 @@ fn scan_slots<const K: usize, D: Disk, L: Ledger>(
 /// How many slots each half has.
 fn slots_of(geometry: &Geometry) -> u32
     ensures value { result ≡ geometry.now.shape.slots }
-    ensures few { result ≤ 4000 }
+    ensures few { result ≤ MOST_SLOTS }
 {
     geometry.shape.slots
 }
@@ -103,38 +106,43 @@ pub fn scan_half<const K: usize, D: Disk, L: Ledger>(
     alloc: Global,
     disk: &mut D,
     geometry: &Geometry,
-    half: u8,
+    half: Half,
     session: u64,
     steps: &mut Steps<L>,
 ) -> Result<Batches<K>, Refusal>
-    requires two { half < 2 }
-    requires size { file_pages geometry.now.shape * 4096 ≤ D.extent disk.old }
+    requires size { file_pages geometry.now.shape * PAGE_BYTES ≤ D.extent disk.old }
     requires few { K ≤ 4 }
-    ensures found { IsTrue (D.honest disk.old) → IfOk result (IsScan geometry.now.shape (D.seen disk.old) half session) }
-    ensures only { IsTrue (D.honest disk.old) → IfOk result (λ bs. (cs : List (model.LoggedBatch K)) → IsScan geometry.now.shape (D.seen disk.old) half session cs → bs ≡ cs) }
-    ensures damaged { IsTrue (D.honest disk.old) → (p : ℕ) → IsErrOf result (Damaged p) → IsFirstBad K geometry.now.shape (D.seen disk.old) half p }
-    ensures no_memory { IsTrue (D.honest disk.old) → IsErrOf result NoMemory → WantsMemory K geometry.now.shape (D.seen disk.old) half session }
-    ensures read_fault { IsErrOf result ReadFault → Rose (D.read_count disk.old) (D.read_count disk.new) }
-    ensures no_other { IfErr result IsRefusalOfScan }
+    ensures found { IsTrue (D.honest disk.old)
+        → IfOk result (IsScan geometry.now.shape (D.seen disk.old) (half_number half) session) }
+    ensures only { IsTrue (D.honest disk.old)
+        → IfOk result (λ bs. (cs : List (model.LoggedBatch K))
+        → IsScan geometry.now.shape (D.seen disk.old) (half_number half) session cs
+        → bs ≡ cs) }
+    ensures damaged { IsTrue (D.honest disk.old)
+        → (p : ℕ)
+        → IsErrOf result (Damaged p)
+        → IsFirstBadPage K geometry.now.shape (D.seen disk.old) (half_number half) p }
+    ensures no_memory { IsTrue (D.honest disk.old)
+        → IsErrOf result NoMemory
+        → WantsMemory K geometry.now.shape (D.seen disk.old) (half_number half) session }
+    ensures causes { HasCauses D.Disk IsRefusalOfScan disk.old disk.new result }
     ensures least { steps.old + 1 ≤ steps.new }
     ensures most { steps.new ≤ steps.old + 1 + geometry.now.shape.slots }
-    ensures ticks { IsTrue (D.honest disk.old) → OnOk result ((gates : List ℕ) → HasGatesOf geometry.now.shape (D.seen disk.old) half gates → steps.new ≡ steps.old + 1 + length (open_slots_of gates half)) }
+    ensures ticks { IsTrue (D.honest disk.old)
+        → OnOk result ((gates : List ℕ)
+        → HasGatesOf geometry.now.shape (D.seen disk.old) (half_number half) gates
+        → steps.new ≡ steps.old + 1 + length (open_slots_of gates (half_number half))) }
     ensures same { OnlyReads D.Disk disk.old disk.new }
 {
-    let mut bytes = [0; 4096];
+    let mut bytes = [0; PAGE_BYTES];
     let gate_page = geometry.gate_page(half);
-    match read_page(disk, gate_page as u64, &mut bytes, steps) {
-        Ok(()) => {}
-        Err(why) => return Err(why),
-    }
+    read_page(disk, gate_page as u64, &mut bytes, steps)?;
     let slots = slots_of(geometry);
     if !is_gate_page(&bytes, half, slots) {
         return Err(Refusal::Damaged { page: gate_page });
     }
     let mut found = Batches::new(alloc);
-    let gates = &bytes[96..96 + slots as usize];
-    match scan_slots(disk, geometry, half, gates, session, &mut found, steps) {
-        Ok(()) => Ok(found),
-        Err(why) => Err(why),
-    }
+    let gates = &bytes[HEAD_BYTES..HEAD_BYTES + slots as usize];
+    scan_slots(disk, geometry, half, gates, session, &mut found, steps)?;
+    Ok(found)
 }

@@ -40,33 +40,43 @@ fn found(alloc: Global, disk: &mut Memory, geometry: &Geometry) -> Option<usize>
     }
 }
 
-/// A publication that is cut off after so many calls.
-fn published(alloc: Global, geometry: &Geometry, calls: u64, keep: Keep) -> Result<Outcome, AllocError>
+/// A commit that is cut off after so many calls.
+fn committed(
+    alloc: Global,
+    geometry: &Geometry,
+    calls: u64,
+    keep: Keep,
+) -> Result<Outcome, AllocError>
     requires slots { geometry.now.shape.slots ≡ 3 }
 {
     let mut disk = Fused::new(closed(alloc, geometry)?, calls);
-    let answered = publish(&mut disk, geometry, 1, 7, 9);
+    let answered = commit(&mut disk, geometry, 1, 7, 9);
     let mut image = disk.image(keep)?;
     let found = found(alloc, &mut image, geometry);
     Ok(Outcome { answered, found })
 }
 
 /// A clearing of two batches that is cut off after so many calls.
-fn cleared(alloc: Global, geometry: &Geometry, calls: u64, keep: Keep) -> Result<Outcome, AllocError>
+fn cleared(
+    alloc: Global,
+    geometry: &Geometry,
+    calls: u64,
+    keep: Keep,
+) -> Result<Outcome, AllocError>
     requires slots { geometry.now.shape.slots ≡ 3 }
 {
     let mut disk = closed(alloc, geometry)?;
-    let _ = publish(&mut disk, geometry, 0, 7, 9);
-    let _ = publish(&mut disk, geometry, 1, 7, 9);
+    let _ = commit(&mut disk, geometry, 0, 7, 9);
+    let _ = commit(&mut disk, geometry, 1, 7, 9);
     let mut disk = Fused::new(disk, calls);
-    let answered = clear_half(&mut disk, geometry, 1, 2).is_ok();
+    let answered = clear_half(&mut disk, geometry, Half::Second, 2).is_ok();
     let mut image = disk.image(keep)?;
     let found = found(alloc, &mut image, geometry);
     Ok(Outcome { answered, found })
 }
 
-/// How many batches are found behind so many calls of a publication: the page and its sync, the gate and its sync.
-fn left_by_publishing(calls: u64, keep: Keep) -> usize {
+/// How many batches are found behind so many calls of a commit: the page and its sync, the gate and its sync.
+fn left_by_committing(calls: u64, keep: Keep) -> usize {
     match calls {
         0..=2 => 0,
         3 => usize::from(keep == Keep::All),
@@ -88,9 +98,9 @@ fn a_crash_leaves_whole_batches(rt: HostRuntime) -> Result<(), Fail> {
     let geometry = small().ok_or("the shape is lawful")?;
     for calls in 0..6 {
         for keep in [Keep::All, Keep::None, Keep::Changed] {
-            let run = published(rt.alloc(), &geometry, calls, keep)?;
+            let run = committed(rt.alloc(), &geometry, calls, keep)?;
             assert_eq!(rt; run.answered, calls >= 4);
-            assert_eq!(rt; run.found, Some(left_by_publishing(calls, keep)));
+            assert_eq!(rt; run.found, Some(left_by_committing(calls, keep)));
             let run = cleared(rt.alloc(), &geometry, calls, keep)?;
             assert_eq!(rt; run.answered, calls >= 2);
             assert_eq!(rt; run.found, Some(left_by_clearing(calls, keep)));

@@ -11,7 +11,9 @@ use super::*;
 use arrayvec::ArrayVec;
 use disk_memory::Memory;
 use disk_trait::{Disk, Steps};
-use grid_types::{Cut, Data, Key, Geometry, LayoutChange, LoggedUpdate, Record, Refusal, Shape, Update};
+use grid_types::{
+    Cut, Data, Geometry, Half, Key, LayoutChange, LoggedUpdate, Record, Refusal, Shape, Update,
+};
 use std::alloc::{AllocError, Global};
 use std::marker::Brand;
 use std::sync::ledger::{Blank, Ledger};
@@ -82,21 +84,17 @@ fn small() -> Option<Geometry>
         boundaries: 1000,
         cells: 1_000_000,
     };
-    if shape.lawful() {
-        Some(Geometry { shape })
-    } else {
-        None
-    }
+    Geometry::new(shape)
 }
 
-/// Writes the gate page of half 1 with closed gates.
+/// Writes the gate page of the second half with closed gates.
 fn close_all(disk: &mut Memory, geometry: &Geometry) -> bool
     requires size { file_pages geometry.now.shape * 4096 ≤ extent_of disk.old }
     ensures { extent_of disk.new ≡ extent_of disk.old }
 {
     let mut page = [9; 4096];
-    encode_gates(1, &[0; 3], &mut page);
-    let at = geometry.gate_page(1) as u64 * 4096;
+    encode_gates(Half::Second, &[0; 3], &mut page);
+    let at = geometry.gate_page(Half::Second) as u64 * 4096;
     disk.write(at, &page).is_ok()
 }
 
@@ -110,8 +108,8 @@ fn closed(alloc: Global, geometry: &Geometry) -> Result<Memory, AllocError>
     Ok(disk)
 }
 
-/// Publishes that batch on a slot of half 1.
-fn publish<D: Disk>(disk: &mut D, geometry: &Geometry, slot: u32, session: u64, first: u64) -> bool
+/// Commits that batch on a slot of the second half.
+fn commit<D: Disk>(disk: &mut D, geometry: &Geometry, slot: u32, session: u64, first: u64) -> bool
     requires size { file_pages geometry.now.shape * 4096 ≤ D.extent disk.old }
     requires inside { slot < geometry.now.shape.slots }
     ensures { D.extent disk.new ≡ D.extent disk.old }
@@ -122,7 +120,7 @@ fn publish<D: Disk>(disk: &mut D, geometry: &Geometry, slot: u32, session: u64, 
     let mut page = [0; 4096];
     encode(&batch, &mut page);
     match decode::<2>(&page) {
-        Some(batch) => publish_batch(disk, geometry, 1, slot, &batch).is_ok(),
+        Some(batch) => commit_batch(disk, geometry, Half::Second, slot, &batch).is_ok(),
         None => false,
     }
 }
@@ -141,10 +139,10 @@ fn scan_with<L: Ledger>(
     ensures { extent_of disk.new ≡ extent_of disk.old }
 {
     let mut steps = Steps::<L>::new(blank);
-    scan_half(alloc, disk, geometry, 1, session, &mut steps)
+    scan_half(alloc, disk, geometry, Half::Second, session, &mut steps)
 }
 
-/// A scan of half 1 for a session.
+/// A scan of the second half for a session.
 fn scan(
     alloc: Global,
     disk: &mut Memory,

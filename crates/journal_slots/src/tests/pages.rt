@@ -149,14 +149,17 @@ fn the_last_place_of_a_batch_is_2_to_the_63_less_16(rt: HostRuntime) -> Result<(
 
 #[test]
 fn a_gate_page_is_laid_out(rt: HostRuntime) -> Result<(), Fail> {
-    for half in 0..2 {
+    for (half, other_half, number) in [
+        (Half::First, Half::Second, 0),
+        (Half::Second, Half::First, 1),
+    ] {
         let mut expected = [0; 4096];
-        expected[..8].copy_from_slice(&[0x47, 0x46, 0x47, 0x31, 0, 0, 0, half]);
+        expected[..8].copy_from_slice(&[0x47, 0x46, 0x47, 0x31, 0, 0, 0, number]);
         expected[96..99].copy_from_slice(&[1, 2, 3]);
         let mut page = [9; 4096];
         encode_gates(half, &[1, 2, 3], &mut page);
         assert!(rt; page == expected);
-        assert!(rt; !is_gate_page(&page, 1 - half, 3));
+        assert!(rt; !is_gate_page(&page, other_half, 3));
         assert!(rt; !is_gate_page(&page, half, 2));
         for i in 0..4096 {
             let mut other = page;

@@ -50,8 +50,8 @@ fn a_scan_finds_its_session(rt: HostRuntime) -> Result<(), Fail> {
     assert!(rt; is_damaged(scan(rt.alloc(), &mut disk, &geometry, 7), 26));
     assert!(rt; close_all(&mut disk, &geometry));
     assert!(rt; is_none(scan(rt.alloc(), &mut disk, &geometry, 7)));
-    assert!(rt; publish(&mut disk, &geometry, 0, 5, 9));
-    assert!(rt; publish(&mut disk, &geometry, 2, 7, 9));
+    assert!(rt; commit(&mut disk, &geometry, 0, 5, 9));
+    assert!(rt; commit(&mut disk, &geometry, 2, 7, 9));
     assert!(rt; is_one(scan(rt.alloc(), &mut disk, &geometry, 7), 7, 9));
     assert!(rt; is_one(scan(rt.alloc(), &mut disk, &geometry, 5), 5, 9));
     assert!(rt; is_none(scan(rt.alloc(), &mut disk, &geometry, 6)));
@@ -62,20 +62,20 @@ fn a_scan_finds_its_session(rt: HostRuntime) -> Result<(), Fail> {
 fn batches_come_in_the_order_of_their_slots(rt: HostRuntime) -> Result<(), Fail> {
     let geometry = small().ok_or("the shape is lawful")?;
     let mut disk = closed(rt.alloc(), &geometry)?;
-    assert!(rt; publish(&mut disk, &geometry, 2, 7, 9));
-    assert!(rt; publish(&mut disk, &geometry, 1, 5, 14));
-    assert!(rt; publish(&mut disk, &geometry, 0, 7, 19));
+    assert!(rt; commit(&mut disk, &geometry, 2, 7, 9));
+    assert!(rt; commit(&mut disk, &geometry, 1, 5, 14));
+    assert!(rt; commit(&mut disk, &geometry, 0, 7, 19));
     assert!(rt; are_two(scan(rt.alloc(), &mut disk, &geometry, 7), 7, 19, 9));
     Ok(())
 }
 
-/// Writes the gate of a slot of half 1.
+/// Writes the gate of a slot of the second half.
 fn put_gate(disk: &mut Memory, geometry: &Geometry, slot: u32, gate: u8) -> bool
     requires size { file_pages geometry.now.shape * 4096 ≤ extent_of disk.old }
     requires few { slot < 3 }
     ensures { extent_of disk.new ≡ extent_of disk.old }
 {
-    let at = geometry.gate_page(1) as u64 * 4096 + 96 + slot as u64;
+    let at = geometry.gate_page(Half::Second) as u64 * 4096 + 96 + slot as u64;
     disk.write(at, &[gate]).is_ok()
 }
 
@@ -94,7 +94,7 @@ fn is_closed_at(alloc: Global, disk: &mut Memory, geometry: &Geometry, gate: u8)
 fn a_gate_is_open_where_it_is_1(rt: HostRuntime) -> Result<(), Fail> {
     let geometry = small().ok_or("the shape is lawful")?;
     let mut disk = closed(rt.alloc(), &geometry)?;
-    assert!(rt; publish(&mut disk, &geometry, 0, 7, 9));
+    assert!(rt; commit(&mut disk, &geometry, 0, 7, 9));
     assert!(rt; is_closed_at(rt.alloc(), &mut disk, &geometry, 0));
     assert!(rt; is_closed_at(rt.alloc(), &mut disk, &geometry, 2));
     assert!(rt; is_closed_at(rt.alloc(), &mut disk, &geometry, 255));
@@ -109,16 +109,16 @@ fn a_gate_is_open_where_it_is_1(rt: HostRuntime) -> Result<(), Fail> {
 fn a_cleared_half_has_no_batches(rt: HostRuntime) -> Result<(), Fail> {
     let geometry = small().ok_or("the shape is lawful")?;
     let mut disk = closed(rt.alloc(), &geometry)?;
-    assert!(rt; publish(&mut disk, &geometry, 0, 7, 9));
-    assert!(rt; publish(&mut disk, &geometry, 2, 7, 14));
-    assert!(rt; clear_half(&mut disk, &geometry, 1, 0).is_ok());
+    assert!(rt; commit(&mut disk, &geometry, 0, 7, 9));
+    assert!(rt; commit(&mut disk, &geometry, 2, 7, 14));
+    assert!(rt; clear_half(&mut disk, &geometry, Half::Second, 0).is_ok());
     assert!(rt; are_two(scan(rt.alloc(), &mut disk, &geometry, 7), 7, 9, 14));
-    assert!(rt; clear_half(&mut disk, &geometry, 1, 2).is_ok());
+    assert!(rt; clear_half(&mut disk, &geometry, Half::Second, 2).is_ok());
     assert!(rt; is_one(scan(rt.alloc(), &mut disk, &geometry, 7), 7, 14));
-    let at = geometry.slot_page(1, 2) as u64 * 4096;
+    let at = geometry.slot_page(Half::Second, 2) as u64 * 4096;
     assert!(rt; disk.write(at + 5, &[17]).is_ok());
     assert!(rt; is_damaged(scan(rt.alloc(), &mut disk, &geometry, 7), 29));
-    assert!(rt; clear_half(&mut disk, &geometry, 1, 3).is_ok());
+    assert!(rt; clear_half(&mut disk, &geometry, Half::Second, 3).is_ok());
     assert!(rt; is_none(scan(rt.alloc(), &mut disk, &geometry, 7)));
     Ok(())
 }

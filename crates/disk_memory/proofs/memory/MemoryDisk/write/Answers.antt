@@ -32,8 +32,8 @@ returns-in-Ok-clause-crash c = written_crash _ _ _ _ c.in-Ok.ensures.recorded c.
 pub returns-in-Ok-clause-time : goal.returns-in-Ok-clause-time
 returns-in-Ok-clause-time c = elapses_push _ _ _ c.in-Ok.ensures.recorded
 
-pub returns-in-Ok-clause-dirty : goal.returns-in-Ok-clause-dirty
-returns-in-Ok-clause-dirty c = written_dirty _ _ _ _ c.in-Ok.ensures.recorded
+pub returns-in-Ok-clause-ranges : goal.returns-in-Ok-clause-ranges
+returns-in-Ok-clause-ranges c = record { written = written_dirty _ _ _ _ c.in-Ok.ensures.recorded; failed = tt }
 
-pub returns-then-is_next_chosen-clause-failed_dirty : goal.returns-then-is_next_chosen-clause-failed_dirty
-returns-then-is_next_chosen-clause-failed_dirty c = failed_dirty _ _ _ _ (recorded c)
+pub returns-then-is_next_chosen-clause-ranges : goal.returns-then-is_next_chosen-clause-ranges
+returns-then-is_next_chosen-clause-ranges c = record { written = tt; failed = failed_dirty _ _ _ _ (recorded c) }

@@ -5,12 +5,12 @@ use Rattle.std.proofs.lemmas.List.Elements.{All-map}
 use Rattle.disk_trait.specs.Moments.{AgreesOutside}
 use Rattle.disk_memory.specs.declared.history.Event.{Event}
 use Rattle.disk_memory.specs.Events.{change_of}
-use Rattle.disk_memory.specs.Past.{held, held_after}
+use Rattle.disk_memory.specs.Past.{contents_now, contents_after}
 use Rattle.disk_memory.specs.OnDisk.{LiesInside, on_disk}
 use Rattle.disk_memory.specs.Histories.{past_of}
-use Rattle.disk_memory.proofs.Walks.{held_long}
+use Rattle.disk_memory.proofs.Walks.{contents_long}
 use Rattle.disk_memory.proofs.Syncs.{on_disk_long}
-use Rattle.disk_memory.proofs.history.History.changed.Goals as goal
+use Rattle.disk_memory.proofs.history.DiskHistory.changed.Goals as goal
 
 -- the image begins as what reads give, and has the disk's size
 start_is : (c : goal.After-deref_mut) → c.deref_mut.result.now ≡ c.args.bytes.now
@@ -20,7 +20,7 @@ start_long : (c : goal.After-deref_mut) → length c.deref_mut.result.now ≡ le
 start_long c =
     let first = c.self.inside.first.items in
     let events = c.self.inside.events.items in
-    ap length (start_is c ∙ c.requires) ∙ ap (λ p. length (held p).bytes) (sym c.self.view_is) ∙ held_long first (map change_of events) (All-map (LiesInside (length first)) change_of events c.self.invariant.inside)
+    ap length (start_is c ∙ c.requires) ∙ ap (λ p. length (contents_now p).bytes) (sym c.self.view_is) ∙ contents_long first (map change_of events) (All-map (LiesInside (length first)) change_of events c.self.invariant.inside)
 
 pub change_unsynced-requires-clause-inside : goal.change_unsynced-requires-clause-inside
 change_unsynced-requires-clause-inside c =
@@ -40,6 +40,6 @@ returns-clause-outside c =
     let first = c.self.inside.first.items in
     let after = c.change_unsynced.ensures.outside first in
     let is : c.deref_mut.result.now ≡ c.args.bytes.now = c.deref_mut.ensures.value ∙ c.in_ok-image.ensures.items_if_clones_equal (λ x y e. e) in
-    let ranges : (held_after first (map change_of c.deref.result.now)).dirty ≡ (held c.args.self.now).dirty = ap (λ es. (held_after first (map change_of es)).dirty) c.deref.ensures.value ∙ ap (λ p. (held p).dirty) c.self.view_is in
+    let ranges : (contents_after first (map change_of c.deref.result.now)).dirty ≡ (contents_now c.args.self.now).dirty = ap (λ es. (contents_after first (map change_of es)).dirty) c.deref.ensures.value ∙ ap (λ p. (contents_now p).dirty) c.self.view_is in
     let items = with_items_is c.in_ok-image.image c.change_unsynced.new.image (after.same_length ∙ c.deref_mut.ensures.len) in
-    subst (AgreesOutside (held c.args.self.now).dirty c.args.bytes.now) (sym items) (subst (λ (b : List ℕ). AgreesOutside (held c.args.self.now).dirty b c.change_unsynced.new.image) is (subst (λ rs. AgreesOutside rs c.deref_mut.result.now c.change_unsynced.new.image) ranges after))
+    subst (AgreesOutside (contents_now c.args.self.now).dirty c.args.bytes.now) (sym items) (subst (λ (b : List ℕ). AgreesOutside (contents_now c.args.self.now).dirty b c.change_unsynced.new.image) is (subst (λ rs. AgreesOutside rs c.deref_mut.result.now c.change_unsynced.new.image) ranges after))

@@ -6,7 +6,7 @@ use Rattle.disk_memory.specs.Histories.{past_of}
 use Rattle.disk_memory.specs.OnDisk.{LiesInside}
 use Rattle.disk_memory.proofs.Changes.{changes_push, synced_clean}
 use Rattle.disk_memory.proofs.Walks.{all_push}
-use Rattle.disk_memory.proofs.history.History.record_sync.Goals as goal
+use Rattle.disk_memory.proofs.history.DiskHistory.record_sync.Goals as goal
 
 pub invariant_of-self : goal.invariant_of-self
 invariant_of-self c = record {

@@ -1,41 +1,45 @@
-//! A batch that is published: written, and then made to count.
+//! A batch that is committed: written, and then made to count.
 ghost use Rattle.std.specs.Prelude.{◌≡◌, ◌<◌, ◌≤◌, ◌*◌, IsTrue, OnOk};
+ghost use Rattle.grid_types.specs.declared.sizes.TheConstants.{PAGE_BYTES};
+ghost use Rattle.grid_types.specs.Halves.{half_number};
 ghost use Rattle.grid_types.specs.Shapes.{file_pages};
 ghost use Rattle.disk_trait.specs.Causes.{HasCause};
 ghost use Rattle.disk_trait.specs.Calls.{Changes, IsSynced};
 ghost use Rattle.disk_trait.specs.Moments.{Always, AgreesOutside, LeavesOnly};
 ghost use Rattle.grid_model.specs.Lawful.{IsBatch};
 ghost use Rattle.journal_slots.specs.Batches.{batch_of};
-ghost use Rattle.journal_slots.specs.Publishing.{IsClosed, IsWhole, IsPublished, slot_ranges};
+ghost use Rattle.journal_slots.specs.Committing.{IsClosed, CountsWholeOrNot, IsCommitted, slot_ranges};
 
 use crate::{Batch, open_gate, write_batch};
 use disk_trait::{Disk, DiskFailed};
-use grid_types::Geometry;
+use grid_types::{Geometry, Half};
 
 /// Writes a batch on its slot page, and once it is on the disk opens its gate. Where the gate was closed before, the batch
 /// counts as a whole or not at all at each moment, also where the call fails.
-pub fn publish_batch<const K: usize, D: Disk>(
+pub fn commit_batch<const K: usize, D: Disk>(
     disk: &mut D,
     geometry: &Geometry,
-    half: u8,
+    half: Half,
     slot: u32,
     batch: &Batch<K>,
 ) -> Result<(), DiskFailed>
-    requires two { half < 2 }
     requires inside { slot < geometry.now.shape.slots }
-    requires size { file_pages geometry.now.shape * 4096 ≤ D.extent disk.old }
+    requires size { file_pages geometry.now.shape * PAGE_BYTES ≤ D.extent disk.old }
     requires few { K ≤ 4 }
     requires batch { IsBatch (batch_of batch.now) }
-    ensures whole { IsTrue (D.honest disk.old) → Always (D.may_leave disk.old) (IsClosed geometry.now.shape half slot)
-        → LeavesOnly D.moment D.left_since disk.old disk.new (IsWhole geometry.now.shape half slot (batch_of batch.now)) }
-    ensures published { IsTrue (D.honest disk.old) → OnOk result (IsPublished geometry.now.shape half slot (batch_of batch.now) (D.seen disk.new)) }
+    ensures whole { IsTrue (D.honest disk.old)
+        → Always (D.may_leave disk.old) (IsClosed geometry.now.shape (half_number half) slot)
+        → LeavesOnly D.moment D.left_since disk.old disk.new
+        (CountsWholeOrNot geometry.now.shape (half_number half) slot (batch_of batch.now)) }
+    ensures committed { IsTrue (D.honest disk.old)
+        → OnOk result (IsCommitted geometry.now.shape (half_number half) slot
+        (batch_of batch.now) (D.seen disk.new)) }
     ensures durable { OnOk result (IsSynced D.Disk disk.new) }
-    ensures changes { Changes D.Disk (AgreesOutside (slot_ranges geometry.now.shape half slot)) disk.old disk.new }
+    ensures changes { Changes D.Disk
+        (AgreesOutside (slot_ranges geometry.now.shape (half_number half) slot))
+        disk.old disk.new }
     ensures cause { HasCause (D.write_count disk.old) (D.write_count disk.new) result }
 {
-    match write_batch(disk, geometry, half, slot, batch) {
-        Ok(()) => {}
-        Err(DiskFailed) => return Err(DiskFailed),
-    }
+    write_batch(disk, geometry, half, slot, batch)?;
     open_gate(disk, geometry, half, slot)
 }

@@ -3,17 +3,17 @@ use Rattle.std.specs.Prelude.{All}
 use Rattle.std.proofs.lemmas.List.Elements.{All-map}
 use Rattle.disk_memory.specs.declared.history.Event.{Event}
 use Rattle.disk_memory.specs.Events.{change_of}
-use Rattle.disk_memory.specs.Past.{held}
+use Rattle.disk_memory.specs.Past.{contents_now}
 use Rattle.disk_memory.specs.OnDisk.{LiesInside}
-use Rattle.disk_memory.proofs.Walks.{all_push, held_long}
-use Rattle.disk_memory.proofs.history.History.add.Goals as goal
+use Rattle.disk_memory.proofs.Walks.{all_push, contents_long}
+use Rattle.disk_memory.proofs.history.DiskHistory.add.Goals as goal
 
 pub invariant_of-self-2 : goal.invariant_of-self-2
 invariant_of-self-2 c =
     let first = c.self.inside.first.items in
     let events = c.self.inside.events.items in
     let P = λ (e : Event). LiesInside (length first) (change_of e) in
-    let long : length (held c.args.self.now).bytes ≡ length first = ap (λ p. length (held p).bytes) (sym c.self.view_is) ∙ held_long first (map change_of events) (All-map (LiesInside (length first)) change_of events c.self.invariant.inside) in
+    let long : length (contents_now c.args.self.now).bytes ≡ length first = ap (λ p. length (contents_now p).bytes) (sym c.self.view_is) ∙ contents_long first (map change_of events) (All-map (LiesInside (length first)) change_of events c.self.invariant.inside) in
     let one = subst (λ (n : ℕ). LiesInside n (change_of c.args.event)) long c.requires in
     record {
       inside = subst (All P) (sym (c.in_ok-push.ensures.items ∙ ap (λ es. es ++ c.args.event ∷ []) c.reserve.ensures.items)) (all_push P events c.args.event c.self.invariant.inside one);

@@ -1,6 +1,7 @@
 -- What an image says of one slot and its gate.
 use Rattle.std.specs.Prelude.{◌≡◌, ◌≢◌, ◌⊎◌, ◌*◌, ◌∷◌, [], ℕ, List, slice_index}
 use Rattle.grid_types.specs.declared.shape.Shape.{Shape}
+use Rattle.grid_types.specs.declared.sizes.TheConstants.{PAGE_BYTES}
 use Rattle.grid_types.specs.Pages.{page_of}
 use Rattle.grid_types.specs.Shapes.{slot_page, slot_gate_at}
 use Rattle.grid_model.specs.Spellings.{LoggedBatch}
@@ -19,14 +20,14 @@ abbrev pub HasBatch : {K : ℕ} → Shape → ℕ → ℕ → LoggedBatch K → 
 HasBatch s half slot b image = SpellsBatch (page_of (slot_page s half slot) image) b
 
 -- the batch counts not at all or as a whole: its gate is closed, or its page spells it
-abbrev pub IsWhole : {K : ℕ} → Shape → ℕ → ℕ → LoggedBatch K → List ℕ → Type 0
-IsWhole s half slot b image = IsClosed s half slot image ⊎ HasBatch s half slot b image
+abbrev pub CountsWholeOrNot : {K : ℕ} → Shape → ℕ → ℕ → LoggedBatch K → List ℕ → Type 0
+CountsWholeOrNot s half slot b image = IsClosed s half slot image ⊎ HasBatch s half slot b image
 
 -- the batch counts: its page spells it, and its gate is open
-pub record IsPublished {K : ℕ} (s : Shape) (half slot : ℕ) (b : LoggedBatch K) (image : List ℕ) : Type 0 where
+pub record IsCommitted {K : ℕ} (s : Shape) (half slot : ℕ) (b : LoggedBatch K) (image : List ℕ) : Type 0 where
   pub written : HasBatch s half slot b image
   pub opened : IsOpen s half slot image
 
 -- the bytes of a slot's page, and of its gate
 abbrev pub slot_ranges : Shape → ℕ → ℕ → List (ℕ × ℕ)
-slot_ranges s half slot = (slot_page s half slot * 4096, 4096) ∷ (slot_gate_at s half slot, 1) ∷ []
+slot_ranges s half slot = (slot_page s half slot * PAGE_BYTES, PAGE_BYTES) ∷ (slot_gate_at s half slot, 1) ∷ []
