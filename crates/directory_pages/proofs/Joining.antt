@@ -20,7 +20,7 @@ head_joined part count page h low fits =
     let joined : (codes "GFD1" ++ (bytes_of 4 part ++ (bytes_of 4 count ++ replicate 84 0))) ++ body ≡ codes "GFD1" ++ (bytes_of 4 part ++ (bytes_of 4 count ++ (replicate 84 0 ++ body))) = simp append_assoc in
     fields ∙ sym joined ∙ ap (λ (k : List ℕ). k ++ body) (sym (head_is part count))
 
-body_joined : (count : ℕ) (page : List ℕ) → count ≤ 1000 → AreZeros (96 + 4 * count) 4096 page → length page ≡ 4096 → AreBytes page → drop 96 page ≡ numbers 8 4 (entries_in 4 96 count page) ++ zeros_left 4 count
+body_joined : (count : ℕ) (page : List ℕ) → count ≤ 1000 → AreZeros (96 + 4 * count) 4096 page → length page ≡ 4096 → AreBytes page → drop 96 page ≡ numbers 4 (entries_in 4 96 count page) ++ zeros_left 4 count
 unfolding numbers
 body_joined count page few zeros long fits = body_read 4 count page (omega (arith, few)) zeros long fits
 
@@ -29,7 +29,7 @@ pub joined : (part count : ℕ) (page : List ℕ) → part < 2 ^ 32 → count �
 joined part count page fit few long fits h zeros =
     let cells = entries_in 4 96 count page in
     let size : length cells ≡ count = length-entries_in 4 96 count page in
-    let spelled : page ≡ part_head part count ++ (numbers 8 4 cells ++ zeros_left 4 count) = head_joined part count page h (omega arith) fits ∙ ap (λ (r : List ℕ). part_head part count ++ r) (body_joined count page few zeros long fits) in
+    let spelled : page ≡ part_head part count ++ (numbers 4 cells ++ zeros_left 4 count) = head_joined part count page h (omega arith) fits ∙ ap (λ (r : List ℕ). part_head part count ++ r) (body_joined count page few zeros long fits) in
     record {
       cells = cells;
       count_is = size;
@@ -37,7 +37,7 @@ joined part count page fit few long fits h zeros =
         part_in_range = fit;
         in_range = entries_fit 4 96 count page fits;
         few = omega (arith, size);
-        bytes = spelled ∙ ap (λ (n : ℕ). part_head part n ++ (numbers 8 4 cells ++ zeros_left 4 n)) (sym size) ∙ sym (page_is part cells);
+        bytes = spelled ∙ ap (λ (n : ℕ). part_head part n ++ (numbers 4 cells ++ zeros_left 4 n)) (sym size) ∙ sym (page_is part cells);
       };
     }
 

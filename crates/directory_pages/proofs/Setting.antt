@@ -19,11 +19,11 @@ replaced_mid at a b c new la ln =
     ap (λ (f : List ℕ). f ++ (new ++ drop (at + length new) (a ++ (b ++ c)))) front ∙ ap (λ (r : List ℕ). a ++ (new ++ r)) whole
 
 -- the page of cells with one among them: what stands in front of it, its bytes, and what stands behind it
-split_page : (part n : ℕ) (f : List ℕ) (x : ℕ) (r : List ℕ) → length (f ++ x ∷ r) ≡ n → directory_spelling part (f ++ x ∷ r) ≡ (part_head part n ++ numbers 8 4 f) ++ (bytes_of 4 x ++ (numbers 8 4 r ++ zeros_left 4 n))
+split_page : (part n : ℕ) (f : List ℕ) (x : ℕ) (r : List ℕ) → length (f ++ x ∷ r) ≡ n → directory_spelling part (f ++ x ∷ r) ≡ (part_head part n ++ numbers 4 f) ++ (bytes_of 4 x ++ (numbers 4 r ++ zeros_left 4 n))
 split_page part n f x r long =
-    let cells : numbers 8 4 (f ++ x ∷ r) ≡ numbers 8 4 f ++ (bytes_of 4 x ++ numbers 8 4 r) = words-append f (x ∷ r) ∙ ap (λ (w : List ℕ). numbers 8 4 f ++ w) (words-cons x r) in
+    let cells : numbers 4 (f ++ x ∷ r) ≡ numbers 4 f ++ (bytes_of 4 x ++ numbers 4 r) = words-append f (x ∷ r) ∙ ap (λ (w : List ℕ). numbers 4 f ++ w) (words-cons x r) in
     page_is part (f ++ x ∷ r)
-    ∙ ap (λ (m : ℕ). part_head part m ++ (numbers 8 4 (f ++ x ∷ r) ++ zeros_left 4 m)) long
+    ∙ ap (λ (m : ℕ). part_head part m ++ (numbers 4 (f ++ x ∷ r) ++ zeros_left 4 m)) long
     ∙ ap (λ (w : List ℕ). part_head part n ++ (w ++ zeros_left 4 n)) cells
     ∙ simp append_assoc
 
@@ -37,11 +37,11 @@ set_page part i x cells lt =
     let next : i + 1 ≡ suc i = omega arith in
     let was : cells ≡ f ++ old ∷ r = sym (take-append-drop i cells) ∙ ap (λ (t : List ℕ). f ++ t) (drop_more cells i 0 lt ∙ ap (λ (k : ℕ). old ∷ drop k cells) next) in
     let is : set cells i x ≡ f ++ x ∷ r = set_split cells i x lt in
-    let front : length (part_head part n ++ numbers 8 4 f) ≡ 96 + 4 * i = length-append (part_head part n) (numbers 8 4 f) ∙ omega (arith, length-head part n, length-numbers 8 4 f, length-take-le i cells (omega arith)) in
-    let tail = numbers 8 4 r ++ zeros_left 4 n in
+    let front : length (part_head part n ++ numbers 4 f) ≡ 96 + 4 * i = length-append (part_head part n) (numbers 4 f) ∙ omega (arith, length-head part n, length-numbers 4 f, length-take-le i cells (omega arith)) in
+    let tail = numbers 4 r ++ zeros_left 4 n in
     ap (λ (cs : List ℕ). replaced (96 + 4 * i) (bytes_of 4 x) (directory_spelling part cs)) was
     ∙ ap (replaced (96 + 4 * i) (bytes_of 4 x)) (split_page part n f old r (sym (ap length was)))
-    ∙ replaced_mid (96 + 4 * i) (part_head part n ++ numbers 8 4 f) (bytes_of 4 old) tail (bytes_of 4 x) front (length-bytes_of 4 x ∙ sym (length-bytes_of 4 old))
+    ∙ replaced_mid (96 + 4 * i) (part_head part n ++ numbers 4 f) (bytes_of 4 old) tail (bytes_of 4 x) front (length-bytes_of 4 x ∙ sym (length-bytes_of 4 old))
     ∙ sym (split_page part n f x r (sym (ap length is) ∙ length-set cells i x))
     ∙ ap (directory_spelling part) (sym is)
 

@@ -30,7 +30,7 @@ length-head part count =
     ∙ omega (arith, length-append a (b ++ replicate 84 0), length-append b (replicate 84 0), length-bytes_of 4 part, length-bytes_of 4 count)
 
 -- a directory page is its head, its cells and zeros
-pub page_is : (part : ℕ) (cells : List ℕ) → directory_spelling part cells ≡ part_head part (length cells) ++ (numbers 8 4 cells ++ zeros_left 4 (length cells))
+pub page_is : (part : ℕ) (cells : List ℕ) → directory_spelling part cells ≡ part_head part (length cells) ++ (numbers 4 cells ++ zeros_left 4 (length cells))
 unfolding directory_spelling page part_head numbers
 page_is part cells = ap (λ (body : List ℕ). part_head part (length cells) ++ body) (body_spelled 4 cells)
 
@@ -40,7 +40,7 @@ pub record PartAt (part : ℕ) (page cells : List ℕ) : Type 0 where
   pub each : (i : ℕ) → i < length cells → slice_index cells i ≡ bucket_in i page
   pub zeros : AreZeros (96 + 4 * length cells) 4096 page
 
-cell_there : (page cells : List ℕ) → drop 96 page ≡ numbers 8 4 cells ++ zeros_left 4 (length cells) → ((i : ℕ) → slice_index cells i < 2 ^ 32) → (i : ℕ) → i < length cells → slice_index cells i ≡ bucket_in i page
+cell_there : (page cells : List ℕ) → drop 96 page ≡ numbers 4 cells ++ zeros_left 4 (length cells) → ((i : ℕ) → slice_index cells i < 2 ^ 32) → (i : ℕ) → i < length cells → slice_index cells i ≡ bucket_in i page
 unfolding numbers
 cell_there page cells e fits i lt = entry_there 4 96 page cells (zeros_left 4 (length cells)) e fits i lt
 
@@ -48,7 +48,7 @@ cell_there page cells e fits i lt = entry_there 4 96 page cells (zeros_left 4 (l
 pub part_there : (part : ℕ) (page cells : List ℕ) → SpellsPart part page cells → PartAt part page cells
 part_there part page cells s =
     let n = length cells in
-    let body = numbers 8 4 cells ++ zeros_left 4 n in
+    let body = numbers 4 cells ++ zeros_left 4 n in
     let after8 = replicate 84 0 ++ body in
     let after4 = bytes_of 4 n ++ after8 in
     let at0 : page ≡ codes "GFD1" ++ (bytes_of 4 part ++ after4) = s.bytes ∙ page_is part cells ∙ ap (λ (h : List ℕ). h ++ body) (head_is part n) ∙ simp append_assoc in
@@ -56,7 +56,7 @@ part_there part page cells s =
     let at8 : drop 8 page ≡ after4 = behind 4 4 8 page (bytes_of 4 part) after4 at4 (length-bytes_of 4 part) refl in
     let at12 : drop 12 page ≡ after8 = behind 8 4 12 page (bytes_of 4 n) after8 at8 (length-bytes_of 4 n) refl in
     let at96 : drop 96 page ≡ body = behind 12 84 96 page (replicate 84 0) body at12 refl refl in
-    let end : drop (96 + 4 * n) page ≡ zeros_left 4 n = behind 96 (4 * n) (96 + 4 * n) page (numbers 8 4 cells) (zeros_left 4 n) at96 (length-numbers 8 4 cells) refl in
+    let end : drop (96 + 4 * n) page ≡ zeros_left 4 n = behind 96 (4 * n) (96 + 4 * n) page (numbers 4 cells) (zeros_left 4 n) at96 (length-numbers 4 cells) refl in
     record {
       front = record {
         kind = ap (take 4) at0 ∙ take_at (codes "GFD1") (bytes_of 4 part ++ after4) 4 refl;

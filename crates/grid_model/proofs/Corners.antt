@@ -11,8 +11,8 @@ pub corner-is-key : (K : ℕ) (page : List ℕ) (at : ℕ) (xs : List ℕ) → C
 corner-is-key K page at xs read = record { count = read.count; in_range = read.in_range }
 
 -- a key of up to four numbers has a field of 32 bytes
-pub length-key : (K : ℕ) (xs : List ℕ) → K ≤ 4 → IsKey K xs → length (padded 32 (numbers 8 8 xs)) ≡ 32
-length-key K xs few fits = length-padded 32 (numbers 8 8 xs) (omega (arith, length-numbers 8 8 xs, fits.count))
+pub length-key : (K : ℕ) (xs : List ℕ) → K ≤ 4 → IsKey K xs → length (padded 32 (numbers 8 xs)) ≡ 32
+length-key K xs few fits = length-padded 32 (numbers 8 xs) (omega (arith, length-numbers 8 xs, fits.count))
 
 -- so many bytes are no more than that
 pub few-taken : (n m : ℕ) (xs : List ℕ) → n ≤ m → length (take n xs) ≤ m

@@ -34,7 +34,7 @@ pub record RootFields : Type 0 where
 
 -- the 56 bytes of a root's fields
 unfoldable pub root_bytes : RootFields → List ℕ
-root_bytes r = bytes_of 8 r.number ++ (bytes_of 8 r.session ++ (bytes_of 8 r.front ++ (bytes_of 8 r.records ++ (padded 16 (numbers 8 4 r.boundaries) ++ (bytes_of 4 r.parts ++ bytes_of 4 r.buckets)))))
+root_bytes r = bytes_of 8 r.number ++ (bytes_of 8 r.session ++ (bytes_of 8 r.front ++ (bytes_of 8 r.records ++ (padded 16 (numbers 4 r.boundaries) ++ (bytes_of 4 r.parts ++ bytes_of 4 r.buckets)))))
 
 -- the head of a page of a table area: its kind, its index in the area, how many entries it has, and the root's number
 unfoldable pub area_head : List ℕ → ℕ → ℕ → ℕ → List ℕ
@@ -42,23 +42,23 @@ area_head kind index count root = kind ++ (bytes_of 4 index ++ (bytes_of 4 count
 
 -- a page with boundaries of a scale
 unfoldable pub scale_spelling : ℕ → ℕ → List ℕ → List ℕ
-scale_spelling root index boundaries = page (area_head (codes "GFS1") index (length boundaries) root) (numbers 8 8 boundaries)
+scale_spelling root index boundaries = page (area_head (codes "GFS1") index (length boundaries) root) (numbers 8 boundaries)
 
 -- the page with the data page of each directory part
 unfoldable pub list_spelling : ℕ → ℕ → List ℕ → List ℕ
-list_spelling root index pages = page (area_head (codes "GFL1") index (length pages) root) (numbers 8 4 pages)
+list_spelling root index pages = page (area_head (codes "GFL1") index (length pages) root) (numbers 4 pages)
 
 -- a page with the data pages of a thousand bucket numbers
 unfoldable pub bucket_table_spelling : ℕ → ℕ → List ℕ → List ℕ
-bucket_table_spelling root index pages = page (area_head (codes "GFT1") index (length pages) root) (numbers 8 4 pages)
+bucket_table_spelling root index pages = page (area_head (codes "GFT1") index (length pages) root) (numbers 4 pages)
 
 -- a directory page: its part, and the bucket number of each cell
 unfoldable pub directory_spelling : ℕ → List ℕ → List ℕ
-directory_spelling part cells = page (codes "GFD1" ++ (bytes_of 4 part ++ bytes_of 4 (length cells))) (numbers 8 4 cells)
+directory_spelling part cells = page (codes "GFD1" ++ (bytes_of 4 part ++ bytes_of 4 (length cells))) (numbers 4 cells)
 
 -- a record is its key, a byte for the length of its data, and the data, key and data filled up with zeros
 unfoldable pub record_bytes : {K : ℕ} → Record K → List ℕ
-record_bytes r = padded KEY_BYTES (numbers 8 8 r.key.numbers) ++ (length r.value ∷ padded DATA_ROOM r.value)
+record_bytes r = padded KEY_BYTES (numbers 8 r.key.numbers) ++ (length r.value ∷ padded DATA_ROOM r.value)
 
 -- what a bucket page says: its number, its box and its records
 pub record BucketOf (K : ℕ) : Type 0 where
@@ -69,7 +69,7 @@ pub record BucketOf (K : ℕ) : Type 0 where
 -- the head of a bucket page: the kind, the bucket's number, how many records, turn and arity, and the two corners of the region
 unfoldable pub bucket_head : {K : ℕ} → BucketOf K → List ℕ
 bucket_head {K} b = codes "GFB1" ++ (bytes_of 4 b.number ++ (bytes_of 2 (length b.rows) ++ (b.box.turn ∷ K ∷ 0 ∷ 0 ∷ 0 ∷ 0
-    ∷ (padded KEY_BYTES (numbers 8 8 b.box.region.lo) ++ (padded KEY_BYTES (numbers 8 8 b.box.region.hi) ++ replicate 16 0)))))
+    ∷ (padded KEY_BYTES (numbers 8 b.box.region.lo) ++ (padded KEY_BYTES (numbers 8 b.box.region.hi) ++ replicate 16 0)))))
 
 -- a bucket page is the head, and the records one after the other, filled up with zeros
 unfoldable pub bucket_spelling : {K : ℕ} → BucketOf K → List ℕ
@@ -116,7 +116,7 @@ update_data (Remove k) = []
 -- the bytes of an update with its note
 unfoldable pub update_bytes : {K : ℕ} → LoggedUpdate K → List ℕ
 update_bytes u = padded UPDATE_BYTES (update_code u.update ∷ note_code u.note ∷ note_attribute u.note ∷ length (update_data u.update)
-    ∷ (bytes_of 4 (note_bucket u.note) ++ (bytes_of 8 (note_boundary u.note) ++ (padded KEY_BYTES (numbers 8 8 (updated_key u.update)) ++ padded LONGEST_DATA (update_data u.update)))))
+    ∷ (bytes_of 4 (note_bucket u.note) ++ (bytes_of 8 (note_boundary u.note) ++ (padded KEY_BYTES (numbers 8 (updated_key u.update)) ++ padded LONGEST_DATA (update_data u.update)))))
 
 -- a batch: the session that wrote it, the place of its first update, and its updates
 pub record LoggedBatch (K : ℕ) : Type 0 where

@@ -30,13 +30,13 @@ part_at f n (x ∷ xs) rest (suc a) d each lt =
     (p.0, ap (λ (k : ℕ). drop k (flat_map f (x ∷ xs) ++ rest)) split ∙ sym (drop-drop (n * a) n (flat_map f (x ∷ xs) ++ rest)) ∙ ap (drop (n * a)) first ∙ p.1)
 
 -- a corner stands where it was spelled
-pub corner_there : (K : ℕ) (page : List ℕ) (at : ℕ) (xs r : List ℕ) → drop at page ≡ padded 32 (numbers 8 8 xs) ++ r → length xs ≡ K → ((a : ℕ) → slice_index xs a < 2 ^ 64) → CornerAt K page at xs
+pub corner_there : (K : ℕ) (page : List ℕ) (at : ℕ) (xs r : List ℕ) → drop at page ≡ padded 32 (numbers 8 xs) ++ r → length xs ≡ K → ((a : ℕ) → slice_index xs a < 2 ^ 64) → CornerAt K page at xs
 unfolding padded numbers
 corner_there K page at xs r e count in_range = record {
   count = count;
   in_range = in_range;
   each = λ a h.
-      let zs : List ℕ = replicate (32 - length (numbers 8 8 xs)) 0 in
+      let zs : List ℕ = replicate (32 - length (numbers 8 xs)) 0 in
       let whole : drop at page ≡ flat_map (bytes_of 8) xs ++ (zs ++ r) = e ∙ append_assoc (flat_map (bytes_of 8) xs) zs r in
       let p = part_at (bytes_of 8) 8 xs (zs ++ r) a 0 (λ i g. length-bytes_of 8 (get_or xs i 0)) (omega (arith, count, h)) in
       let there : drop (at + 8 * a) page ≡ bytes_of 8 (get_or xs a 0) ++ p.0 = sym (drop-drop (8 * a) at page) ∙ ap (drop (8 * a)) whole ∙ p.1 in

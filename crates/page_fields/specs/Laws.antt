@@ -7,5 +7,5 @@ use Rattle.page_fields.specs.Padded.{padded, numbers}
 pub record AreNumbers : Type 0 where
   pub read : (n x : ℕ) (rest : List ℕ) → x < 256 ^ n → number n (bytes_of n x ++ rest) ≡ x
   pub size : (n x : ℕ) → length (bytes_of n x) ≡ n
-  pub sizes : (width : ℕ) (ns : List ℕ) → length (numbers 8 width ns) ≡ width * length ns
+  pub sizes : (width : ℕ) (ns : List ℕ) → length (numbers width ns) ≡ width * length ns
   pub filled : (n : ℕ) (bytes : List ℕ) → length bytes ≤ n → length (padded n bytes) ≡ n

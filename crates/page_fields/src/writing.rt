@@ -31,8 +31,8 @@ pub fn put_zeros(page: &mut [u8; PAGE_BYTES], from: usize, to: usize)
 pub fn put_corner<const K: usize>(page: &mut [u8; PAGE_BYTES], at: usize, corner: &[u64; K])
     requires room { at + KEY_BYTES ≤ PAGE_BYTES }
     requires few { K ≤ MOST_ATTRIBUTES }
-    ensures written { page.new ≡ replaced at (padded KEY_BYTES (numbers 8 8 corner.now)) page.old }
-    ensures front { take (at + KEY_BYTES) page.new ≡ take at page.old ++ padded KEY_BYTES (numbers 8 8 corner.now) }
+    ensures written { page.new ≡ replaced at (padded KEY_BYTES (numbers 8 corner.now)) page.old }
+    ensures front { take (at + KEY_BYTES) page.new ≡ take at page.old ++ padded KEY_BYTES (numbers 8 corner.now) }
 {
     for a in 0..K {
         set_u64(page, at + 8 * a, corner[a]);
@@ -43,8 +43,8 @@ pub fn put_corner<const K: usize>(page: &mut [u8; PAGE_BYTES], at: usize, corner
 /// Writes numbers of four bytes, one behind the other.
 pub fn put_words(page: &mut [u8; PAGE_BYTES], at: usize, words: &[u32])
     requires { at + 4 * length words.now ≤ PAGE_BYTES }
-    ensures written { page.new ≡ replaced at (numbers 8 4 words.now) page.old }
-    ensures front { take (at + 4 * length words.now) page.new ≡ take at page.old ++ numbers 8 4 words.now }
+    ensures written { page.new ≡ replaced at (numbers 4 words.now) page.old }
+    ensures front { take (at + 4 * length words.now) page.new ≡ take at page.old ++ numbers 4 words.now }
 {
     for (i, word) in words.iter().enumerate() {
         set_u32(page, at + 4 * i, *word);
@@ -54,8 +54,8 @@ pub fn put_words(page: &mut [u8; PAGE_BYTES], at: usize, words: &[u32])
 /// Writes numbers of eight bytes, one behind the other.
 pub fn put_numbers(page: &mut [u8; PAGE_BYTES], at: usize, words: &[u64])
     requires { at + 8 * length words.now ≤ PAGE_BYTES }
-    ensures written { page.new ≡ replaced at (numbers 8 8 words.now) page.old }
-    ensures front { take (at + 8 * length words.now) page.new ≡ take at page.old ++ numbers 8 8 words.now }
+    ensures written { page.new ≡ replaced at (numbers 8 words.now) page.old }
+    ensures front { take (at + 8 * length words.now) page.new ≡ take at page.old ++ numbers 8 words.now }
 {
     for (i, word) in words.iter().enumerate() {
         set_u64(page, at + 8 * i, *word);

@@ -12,7 +12,7 @@ use Rattle.root_pages.specs.Headers.{AreInRange}
 use Rattle.root_pages.specs.Reading.{FieldsAt}
 
 -- numbers of four bytes with zeros behind them, from a known offset on
-words_there : (at n : ℕ) (page ns rest : List ℕ) → drop at page ≡ padded n (numbers 8 4 ns) ++ rest → ((i : ℕ) → slice_index ns i < 2 ^ 32) → (i : ℕ) → i < length ns → slice_index ns i ≡ number 4 (drop (at + 4 * i) page)
+words_there : (at n : ℕ) (page ns rest : List ℕ) → drop at page ≡ padded n (numbers 4 ns) ++ rest → ((i : ℕ) → slice_index ns i < 2 ^ 32) → (i : ℕ) → i < length ns → slice_index ns i ≡ number 4 (drop (at + 4 * i) page)
 unfolding padded numbers
 words_there at n page ns rest e fits i lt =
     let zeros = replicate (n - length (flat_map (bytes_of 4) ns)) 0 in
@@ -26,7 +26,7 @@ module _ (at : ℕ) (page : List ℕ) (r : RootFields) (rest : List ℕ) (is : d
   from48 = bytes_of 4 r.parts ++ from52
 
   abbrev from32 : List ℕ
-  from32 = padded 16 (numbers 8 4 r.boundaries) ++ from48
+  from32 = padded 16 (numbers 4 r.boundaries) ++ from48
 
   abbrev from24 : List ℕ
   from24 = bytes_of 8 r.records ++ from32
@@ -60,8 +60,8 @@ module _ (at : ℕ) (page : List ℕ) (r : RootFields) (rest : List ℕ) (is : d
   -- the numbers stand where they are spelled
   pub fields_there : (K : ℕ) → K ≤ 4 → AreInRange K r → FieldsAt at page r
   fields_there K few fit =
-      let sixteen : length (padded 16 (numbers 8 4 r.boundaries)) ≡ 16 = length-padded 16 (numbers 8 4 r.boundaries) (omega (arith, length-numbers 8 4 r.boundaries, fit.attributes, few)) in
-      let at48 : drop (at + 48) page ≡ from48 = behind (at + 32) 16 (at + 48) page (padded 16 (numbers 8 4 r.boundaries)) _ at32 sixteen (omega arith) in
+      let sixteen : length (padded 16 (numbers 4 r.boundaries)) ≡ 16 = length-padded 16 (numbers 4 r.boundaries) (omega (arith, length-numbers 4 r.boundaries, fit.attributes, few)) in
+      let at48 : drop (at + 48) page ≡ from48 = behind (at + 32) 16 (at + 48) page (padded 16 (numbers 4 r.boundaries)) _ at32 sixteen (omega arith) in
       let at52 : drop (at + 52) page ≡ from52 = behind (at + 48) 4 (at + 52) page (bytes_of 4 r.parts) _ at48 (length-bytes_of 4 r.parts) (omega arith) in
       record {
         number_is = number_there fit.number;

@@ -77,7 +77,7 @@ header_closed s =
     ∙ get_or-replicate (4096 - length (shape_bytes s)) 0 0 0 (omega (arith, length-shape_bytes s))
 
 -- a root's fields once they were written, one behind the other
-pub fields_written : (r : RootFields) (a1 a2 a3 a4 a5 a6 a7 : List ℕ) → a1 ≡ bytes_of 8 r.number → a2 ≡ a1 ++ bytes_of 8 r.session → a3 ≡ a2 ++ bytes_of 8 r.front → a4 ≡ a3 ++ bytes_of 8 r.records → a5 ≡ a4 ++ padded 16 (numbers 8 4 r.boundaries)
+pub fields_written : (r : RootFields) (a1 a2 a3 a4 a5 a6 a7 : List ℕ) → a1 ≡ bytes_of 8 r.number → a2 ≡ a1 ++ bytes_of 8 r.session → a3 ≡ a2 ++ bytes_of 8 r.front → a4 ≡ a3 ++ bytes_of 8 r.records → a5 ≡ a4 ++ padded 16 (numbers 4 r.boundaries)
     → a6 ≡ a5 ++ bytes_of 4 r.parts → a7 ≡ a6 ++ bytes_of 4 r.buckets → a7 ≡ root_bytes r
 unfolding root_bytes
 fields_written r a1 a2 a3 a4 a5 a6 a7 e1 e2 e3 e4 e5 e6 e7 = e7 ∙ rw (e6, e5, e4, e3, e2, e1) (simp append_assoc)

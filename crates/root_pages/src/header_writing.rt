@@ -56,7 +56,7 @@ fn clear(bytes: &mut [u8; 56], from: usize, to: usize)
 /// Writes how many boundaries each scale has, and zeros for the scales that there are not.
 fn put_counts<const K: usize>(bytes: &mut [u8; 56], counts: &[u32; K])
     requires { K ≤ 4 }
-    ensures { take 48 bytes.new ≡ take 32 bytes.old ++ padded 16 (numbers 8 4 counts.now) }
+    ensures { take 48 bytes.new ≡ take 32 bytes.old ++ padded 16 (numbers 4 counts.now) }
 {
     for a in 0..K {
         put_u32(bytes, 32 + 4 * a, counts[a]);

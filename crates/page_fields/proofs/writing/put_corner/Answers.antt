@@ -18,13 +18,13 @@ pub returns-clause-written : goal.returns-clause-written
 returns-clause-written g c =
     let corner = c.args.corner.now in
     let end = c.args.at + 8 * g.row.K in
-    let long : length (numbers 8 8 corner) ≡ 8 * g.row.K = omega (arith, length-numbers 8 8 corner, c.told-corner) in
+    let long : length (numbers 8 corner) ≡ 8 * g.row.K = omega (arith, length-numbers 8 corner, c.told-corner) in
     let now = all-written 8 c.args.at corner c.args.page.now c.loop-a.a c.loop-a.page (omega (arith, c.told-corner, c.loop-a-test.false)) c.loop-a.invariant in
-    replaced_more c.args.at end c.args.page.now c.loop-a.page _ (numbers 8 8 corner) _ now c.put_zeros.ensures.written (omega (arith, long)) (omega (arith, c.told-page))
-    ∙ ap (λ (xs : List ℕ). replaced c.args.at xs c.args.page.now) (padded_is KEY_BYTES (c.args.at + KEY_BYTES - end) (numbers 8 8 corner) (omega (arith, long)))
+    replaced_more c.args.at end c.args.page.now c.loop-a.page _ (numbers 8 corner) _ now c.put_zeros.ensures.written (omega (arith, long)) (omega (arith, c.told-page))
+    ∙ ap (λ (xs : List ℕ). replaced c.args.at xs c.args.page.now) (padded_is KEY_BYTES (c.args.at + KEY_BYTES - end) (numbers 8 corner) (omega (arith, long)))
 
 pub returns-clause-front : goal.returns-clause-front
 returns-clause-front g c =
     let corner = c.args.corner.now in
-    let short = length-padded KEY_BYTES (numbers 8 8 corner) (omega (arith, length-numbers 8 8 corner, c.told-corner)) in
-    front_of c.args.at KEY_BYTES c.args.page.now _ (padded KEY_BYTES (numbers 8 8 corner)) (returns-clause-written g c) short (omega (arith, c.told-page))
+    let short = length-padded KEY_BYTES (numbers 8 corner) (omega (arith, length-numbers 8 corner, c.told-corner)) in
+    front_of c.args.at KEY_BYTES c.args.page.now _ (padded KEY_BYTES (numbers 8 corner)) (returns-clause-written g c) short (omega (arith, c.told-page))

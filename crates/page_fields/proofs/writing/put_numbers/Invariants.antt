@@ -4,4 +4,4 @@ use Rattle.page_fields.specs.Padded.{numbers}
 use Rattle.page_fields.proofs.writing.put_numbers.Given as goal
 
 abbrev pub invariant-loop-i : goal.invariant-loop-i
-invariant-loop-i l = l.page ≡ replaced l.at (numbers 8 8 (take l.i l.words)) l.initial.page
+invariant-loop-i l = l.page ≡ replaced l.at (numbers 8 (take l.i l.words)) l.initial.page

@@ -12,5 +12,5 @@ returns c =
     let ps = c.args.pages.now in
     let n = length ps in
     let front = padded 96 (area_head c.args.kind.now c.args.index n c.args.root) in
-    let known : take (96 + 4 * n) c.put_words.new.page ≡ front ++ numbers 8 4 ps = c.put_words.ensures.front ∙ ap (λ (f : List ℕ). f ++ numbers 8 4 ps) c.put_head.ensures in
-    filled_up 4096 (96 + 4 * n) 96 front (numbers 8 4 ps) c.put_words.new.page c.put_zeros.new.page known (length-head c.args.kind.now c.args.index n c.args.root c.told-kind) (omega (arith, c.put_words.array_long, c.requires)) (omega arith) c.put_zeros.ensures.front c.put_zeros.array_long
+    let known : take (96 + 4 * n) c.put_words.new.page ≡ front ++ numbers 4 ps = c.put_words.ensures.front ∙ ap (λ (f : List ℕ). f ++ numbers 4 ps) c.put_head.ensures in
+    filled_up 4096 (96 + 4 * n) 96 front (numbers 4 ps) c.put_words.new.page c.put_zeros.new.page known (length-head c.args.kind.now c.args.index n c.args.root c.told-kind) (omega (arith, c.put_words.array_long, c.requires)) (omega arith) c.put_zeros.ensures.front c.put_zeros.array_long

@@ -11,8 +11,8 @@ returns-clause-written c =
     let bs = c.args.boundaries.now in
     let n = length bs in
     let front = padded 96 (area_head (codes "GFS1") c.args.index n c.args.root) in
-    let known : take (96 + 8 * n) c.put_numbers.new.page ≡ front ++ numbers 8 8 bs = c.put_numbers.ensures.front ∙ ap (λ (f : List ℕ). f ++ numbers 8 8 bs) c.put_head.ensures in
-    filled_up 4096 (96 + 8 * n) 96 front (numbers 8 8 bs) c.put_numbers.new.page c.put_zeros.new.page known (length-head (codes "GFS1") c.args.index n c.args.root refl) (omega (arith, c.put_numbers.array_long, c.requires)) (omega arith) c.put_zeros.ensures.front c.put_zeros.array_long
+    let known : take (96 + 8 * n) c.put_numbers.new.page ≡ front ++ numbers 8 bs = c.put_numbers.ensures.front ∙ ap (λ (f : List ℕ). f ++ numbers 8 bs) c.put_head.ensures in
+    filled_up 4096 (96 + 8 * n) 96 front (numbers 8 bs) c.put_numbers.new.page c.put_zeros.new.page known (length-head (codes "GFS1") c.args.index n c.args.root refl) (omega (arith, c.put_numbers.array_long, c.requires)) (omega arith) c.put_zeros.ensures.front c.put_zeros.array_long
 
 pub returns-clause-spelled : goal.returns-clause-spelled
 returns-clause-spelled c = record { root_in_range = omega arith; index_in_range = omega arith; in_range = λ i. omega (arith, c.type_inv.boundaries i); few = c.requires; bytes = returns-clause-written c }

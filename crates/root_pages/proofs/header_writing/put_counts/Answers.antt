@@ -6,7 +6,7 @@ use Rattle.page_fields.proofs.BytesOf.{numbers_none, numbers_more, padded_is, le
 use Rattle.root_pages.proofs.header_writing.put_counts.Goals as goal
 
 pub loop-a-init : goal.loop-a-init
-loop-a-init g c = sym (ap (λ (w : List ℕ). take 32 c.args.bytes.now ++ w) (numbers_none 8) 4 ∙ append-nil (take 32 c.args.bytes.now))
+loop-a-init g c = sym (ap (λ (w : List ℕ). take 32 c.args.bytes.now ++ w) numbers_none 4 ∙ append-nil (take 32 c.args.bytes.now))
 
 pub loop-a-preserved : goal.loop-a-preserved
 loop-a-preserved g c =
@@ -15,8 +15,8 @@ loop-a-preserved g c =
     ap (λ (n : ℕ). take n c.put_u32.new.bytes) end
     ∙ c.put_u32.ensures
     ∙ ap (λ (f : List ℕ). f ++ bytes_of 4 (get_or c.args.counts.now c.loop-a.a 0)) c.loop-a.invariant
-    ∙ append_assoc front (numbers 8 4 (take c.loop-a.a c.args.counts.now)) (bytes_of 4 (get_or c.args.counts.now c.loop-a.a 0))
-    ∙ ap (λ (w : List ℕ). front ++ w) (numbers_more 8 4 c.args.counts.now c.loop-a.a 0 (omega (arith, c.told-counts, c.loop-a-test.true)))
+    ∙ append_assoc front (numbers 4 (take c.loop-a.a c.args.counts.now)) (bytes_of 4 (get_or c.args.counts.now c.loop-a.a 0))
+    ∙ ap (λ (w : List ℕ). front ++ w) (numbers_more 4 c.args.counts.now c.loop-a.a 0 (omega (arith, c.told-counts, c.loop-a-test.true)))
 
 pub returns : goal.returns
 returns g c =
@@ -26,6 +26,6 @@ returns g c =
     let all : take c.loop-a.a counts ≡ counts = take_all c.loop-a.a counts (omega (arith, c.told-counts, end)) in
     let n = 48 - (32 + 4 * g.row.K) in
     c.clear.ensures
-    ∙ ap (λ (f : List ℕ). f ++ replicate n 0) (ap (λ (a : ℕ). take (32 + 4 * a) c.loop-a.bytes) (sym end) ∙ c.loop-a.invariant ∙ ap (λ (cs : List ℕ). front ++ numbers 8 4 cs) all)
-    ∙ append_assoc front (numbers 8 4 counts) (replicate n 0)
-    ∙ ap (λ (w : List ℕ). front ++ w) (padded_is 16 n (numbers 8 4 counts) (omega (arith, length-numbers 8 4 counts, c.told-counts, c.requires)))
+    ∙ ap (λ (f : List ℕ). f ++ replicate n 0) (ap (λ (a : ℕ). take (32 + 4 * a) c.loop-a.bytes) (sym end) ∙ c.loop-a.invariant ∙ ap (λ (cs : List ℕ). front ++ numbers 4 cs) all)
+    ∙ append_assoc front (numbers 4 counts) (replicate n 0)
+    ∙ ap (λ (w : List ℕ). front ++ w) (padded_is 16 n (numbers 4 counts) (omega (arith, length-numbers 4 counts, c.told-counts, c.requires)))
