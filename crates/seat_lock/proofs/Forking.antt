@@ -1,175 +1,98 @@
 -- What a fork of the value leaves, by the laws of its trait.
-use Rattle.std.proofs.Common.{◌≡◌, ℕ, ◌<◌, ◌≢◌, List, length, set, sym, ap, ◌∙◌, subst, ⊎_elim, Option, Some, None, Result, Ok, Err, IfOk, IfErr, length-set}
-use Rattle.std.proofs.lemmas.Option.{same_Some, none-some}
-use Rattle.atomic_table.specs.Table.{Me}
-use Rattle.atomic_table.proofs.Lists.{at_set, set_else}
+use Rattle.std.proofs.Common.{◌≡◌, ℕ, ◌<◌, ◌≢◌, List, [], ◌∷◌, set, sym, refl, ap, ◌∙◌, subst, Option, Some, Result, Ok, Err, length-set}
+use Rattle.std.proofs.lemmas.Option.{none-some}
+use Rattle.atomic_table.specs.Table.{rest}
+use Rattle.atomic_table.proofs.Lists.{set_else}
 use Rattle.seat_lock.specs.declared.view.View.{View}
-use Rattle.seat_lock.specs.Parts.{Has, Begins, Keeps, Forked}
-use Rattle.seat_lock.specs.Told.{Taken}
-use Rattle.seat_lock.specs.Turns.{Out, Over}
+use Rattle.seat_lock.specs.declared.stepped.Stepped.{Ghosts}
+use Rattle.seat_lock.specs.Parts.{StaysSafe, Keeps, Forked}
+use Rattle.seat_lock.specs.Rule.{MeOf}
+use Rattle.seat_lock.specs.Plays.{Carries}
+use Rattle.seat_lock.specs.Turns.{IsBetweenCalls, MayGiveAway, MayHandOver}
 use Rattle.seat_lock.specs.Outcomes.{ForkAnswered, SplitOff}
-use Rattle.seat_lock.specs.Views.{seated, noting, taking, cut_left, cut_right, resting}
-use Rattle.seat_lock.proofs.Lists.{begins_self, begins_trans}
+use Rattle.seat_lock.specs.Views.{IsAtRest, resting_view, seat_at, with_turn, with_note, with_seen, without_turn}
+use Rattle.seat_lock.proofs.Lists.{slot_alone}
+use Rattle.seat_lock.proofs.Meeting.{LawsOf, HasMet, meets, leads_set, leads_on, fits_after, handed_over, between_calls}
 
-pub ok_map : {T F : Type 0} → (r : Result T F) (A B : T → Type 0) → ((x : T) → A x → B x) → IfOk r A → IfOk r B
-ok_map (Ok x) A B f a = f x a
-ok_map (Err e) A B f a = tt
+module _ {C Ev R P E : Type 0} {g : Ghosts C Ev R P E} (laws : LawsOf g) {core : C} {v : View E P} {w : MeOf C E P} (t : C) (place : ℕ) (h : HasMet g core v w place) where
+  -- what a fork that was refused leaves
+  refusal_keeps : (reply : R) → g.forks core place t (Err reply) → Keeps g.part_at g.onward g.places g.safe place v.from core t h.meeting.history h.meeting.parts
+  refusal_keeps reply did = laws.refusal_keeps core t place v.from h.meeting.history h.meeting.parts reply (meets h.meeting) did
 
-pub err_map : {T F : Type 0} → (r : Result T F) (A B : F → Type 0) → ((x : F) → A x → B x) → IfErr r A → IfErr r B
-err_map (Ok x) A B f a = tt
-err_map (Err e) A B f a = f e a
+  -- what a fork that was made leaves
+  fork_keeps : (new : ℕ) → g.forks core place t (Ok new) → Forked g.part_at g.onward g.places g.safe place new v.from core t h.meeting.history h.meeting.parts
+  fork_keeps new did = laws.fork_keeps core t place new v.from h.meeting.history h.meeting.parts (meets h.meeting) did
 
-module _ {C E P R : Type 0} (part_at : C → ℕ → Option P) (onward : P → P → Type 0) (places : C → ℕ) (safe : C → ℕ → List E → List (Option P) → Type 0) (forks : C → ℕ → C → Result ℕ R → Type 0)
-    (onward_self : (x : P) → onward x x) (onward_on : (x y z : P) → onward x y → onward y z → onward x z)
-    (fork_keeps : (s t : C) (seat from : ℕ) (history : List E) (parts : List (Option P)) (x y : P) (new : ℕ)
-    → safe s from history parts → Has parts seat x → part_at s seat ≡ Some y → onward x y → forks s seat t (Ok new) → Forked part_at onward places safe seat new from s t history parts)
-    (refusal_keeps : (s t : C) (seat from : ℕ) (history : List E) (parts : List (Option P)) (x y : P) (reply : R)
-    → safe s from history parts → Has parts seat x → part_at s seat ≡ Some y → onward x y → forks s seat t (Err reply) → Keeps part_at onward places safe seat from s t history parts) where
-  abbrev IsOut : C → View E P → ℕ → Type 0
-  IsOut = Out part_at onward places safe
+  -- the place that it put out is no seat's, and may be given away
+  pub may_give_away : {after : C} (new : ℕ) → g.forks core place t (Ok new) → after ≡ t → MayGiveAway w.0 new (g.part_at after new)
+  may_give_away new did same = let f = fork_keeps new did in record {
+    parts = h.meeting.parts;
+    part = f.given;
+    notes = ap (λ (z : View E P). z.notes) h.view;
+    within = subst (λ (n : ℕ). new < n) (sym h.meeting.fits.each) f.within;
+    free = λ x has. let l = h.meeting.fits.leads new x has in none-some l.0 (sym f.free ∙ l.1);
+    given_is = ap (λ (c : C). g.part_at c new) same ∙ f.given_is;
+  }
 
-  abbrev IsOver : C → View E P → ℕ → Type 0
-  IsOver = Over part_at onward places safe
+  -- the seat, where the fork was refused
+  seat_kept : {m : MeOf C E P} → m ≡ (w.0, (0, Some t) ∷ rest w.1) → m ≡ (with_turn v h.meeting.history h.meeting.parts, (0, Some t) ∷ [])
+  seat_kept is = is ∙ (λ i. (h.view i, slot_alone w.1 (Some h.taken) (Some t) h.carries i))
 
-  abbrev Answered : View E P → View E P → ℕ → Result ℕ R → Type 0
-  Answered = ForkAnswered part_at onward places safe forks
-
-  abbrev Off : View E P → View E P → View E P → ℕ → ℕ → Type 0
-  Off = SplitOff part_at onward places safe forks
-
-  refused : (core t : C) (w : View E P) (place : ℕ) (reply : R) (o : IsOut core w place) → forks core place t (Err reply) → Keeps part_at onward places safe place w.from core t w.seen o.parts
-  refused core t w place reply o did = let l = o.fits.2 place o.part o.has in refusal_keeps core t place w.from w.seen o.parts o.part l.0 reply o.fits.0 o.has l.1 l.2 did
-
-  forked : (core t : C) (w : View E P) (place new : ℕ) (o : IsOut core w place) → forks core place t (Ok new) → Forked part_at onward places safe place new w.from core t w.seen o.parts
-  forked core t w place new o did = let l = o.fits.2 place o.part o.has in fork_keeps core t place w.from w.seen o.parts o.part l.0 new o.fits.0 o.has l.1 l.2 did
+  -- the seat, once it has given the new place away
+  seat_cut : {after : C} {m : MeOf C E P} (new : ℕ) (did : g.forks core place t (Ok new)) → after ≡ t → m ≡ (with_note new (g.part_at after new) w.0, (0, Some t) ∷ rest w.1)
+      → m ≡ (with_note new (Some (fork_keeps new did).given) (with_turn v h.meeting.history h.meeting.parts), (0, Some t) ∷ [])
+  seat_cut new did same is = let given = ap (λ (c : C). g.part_at c new) same ∙ (fork_keeps new did).given_is in is ∙ (λ i. (with_note new (given i) (h.view i), slot_alone w.1 (Some h.taken) (Some t) h.carries i))
 
   -- after a fork that was refused the value may go home
-  pub over_refused : (core t : C) (w : View E P) (place : ℕ) (reply : R) → IsOut core w place → forks core place t (Err reply) → IsOver t w place
-  over_refused core t w place reply o did = let k = refused core t w place reply o did in record {
-    parts = o.parts;
-    old = o.part;
-    new = k.part;
-    notes = o.notes;
-    seat = o.seat;
-    has = o.has;
-    part = k.is;
-    fits = (
-      k.kept,
-      length-set o.parts place (Some k.part) ∙ (o.fits.1 ∙ sym k.same),
-      λ p y there. ⊎_elim (λ (q : (p ≡ place) × (Some k.part ≡ Some y)). let e : k.part ≡ y = same_Some k.part y q.1 in (k.part, ap (part_at t) q.0 ∙ k.is, subst (λ (z : P). onward z k.part) e (onward_self k.part)))
-          (λ (q : (p ≢ place) × Has o.parts p y). let l = o.fits.2 p y q.1 in let m = k.moves p l.0 q.0 l.1 in (m.0, m.1, onward_on y l.0 m.0 l.2 m.2)) (at_set o.parts place p (Some k.part) (Some y) there),
-    );
+  pub may_hand_over_refused : {m : MeOf C E P} (reply : R) → g.forks core place t (Err reply) → m ≡ (w.0, (0, Some t) ∷ rest w.1) → MayHandOver g m place
+  may_hand_over_refused reply did is = let k = refusal_keeps reply did in subst (λ (z : MeOf C E P). MayHandOver g z place) (sym (seat_kept is)) record {
+    core = t;
+    carries = refl;
+    parts = h.meeting.parts;
+    old = h.meeting.known;
+    new = k.stays.part;
+    notes = refl;
+    seat = h.meeting.had;
+    has = h.meeting.has;
+    new_is = k.stays.part_is;
+    fits = fits_after laws k.stays h.meeting.fits.each (leads_on laws (λ p. p ≢ place) h.meeting.fits k.moves);
   }
-
-  apart : (core t : C) (w : View E P) (place new : ℕ) (o : IsOut core w place) → part_at core new ≡ None → place ≢ new
-  apart core t w place new o free e = let l = o.fits.2 place o.part o.has in none-some l.0 (sym free ∙ (ap (part_at core) (sym e) ∙ l.1))
-
-  -- the place that a fork puts out is no seat's
-  pub cut_free : (core t after : C) (w : View E P) (place new : ℕ) → IsOut core w place → forks core place t (Ok new) → after ≡ t
-      → (parts : List (Option P)) × (y : P) × (w.notes ≡ Some parts) × (new < length parts) × ((x : P) → Has parts new x → ⊥) × (part_at after new ≡ Some y)
-  cut_free core t after w place new o did same = let k = forked core t w place new o did in
-      (o.parts, k.given, o.notes, subst (λ n. new < n) (sym o.fits.1) k.within, (λ x has. let l = o.fits.2 new x has in none-some l.0 (sym k.free ∙ l.1)), ap (λ (c : C). part_at c new) same ∙ k.given_is)
 
   -- after a fork that was made, and the cut, the value may go home
-  pub over_forked : (core t after : C) (w v : View E P) (place new : ℕ) → IsOut core w place → forks core place t (Ok new) → after ≡ t → v ≡ cut_left new (part_at after new) w → IsOver t v place
-  over_forked core t after w v place new o did same is = let k = forked core t w place new o did in let given : part_at after new ≡ Some k.given = ap (λ (c : C). part_at c new) same ∙ k.given_is in
-      let e : v ≡ cut_left new (Some k.given) w = is ∙ (λ i. cut_left new (given i) w) in let ps : List (Option P) = set o.parts new (Some k.given) in
-      subst (λ (z : View E P). IsOver t z place) (sym e) record {
+  pub may_hand_over_forked : {after : C} {m : MeOf C E P} (new : ℕ) → g.forks core place t (Ok new) → after ≡ t → m ≡ (with_note new (g.part_at after new) w.0, (0, Some t) ∷ rest w.1) → MayHandOver g m place
+  may_hand_over_forked new did same is = let f = fork_keeps new did in let ps : List (Option P) = set h.meeting.parts new (Some f.given) in
+      let apart : place ≢ new = λ e. none-some h.meeting.found (sym f.free ∙ (ap (g.part_at core) (sym e) ∙ h.meeting.found_is)) in
+      subst (λ (z : MeOf C E P). MayHandOver g z place) (sym (seat_cut new did same is)) record {
+        core = t;
+        carries = refl;
         parts = ps;
-        old = o.part;
-        new = k.part;
-        notes = ap (noting new (Some k.given)) o.notes;
-        seat = o.seat;
-        has = set_else o.parts new place (Some k.given) (apart core t w place new o k.free) ∙ o.has;
-        part = k.is;
-        fits = (
-          k.kept,
-          length-set ps place (Some k.part) ∙ (length-set o.parts new (Some k.given) ∙ (o.fits.1 ∙ sym k.same)),
-          λ p y there. ⊎_elim (λ (q : (p ≡ place) × (Some k.part ≡ Some y)). let e : k.part ≡ y = same_Some k.part y q.1 in (k.part, ap (part_at t) q.0 ∙ k.is, subst (λ (z : P). onward z k.part) e (onward_self k.part)))
-              (λ (q : (p ≢ place) × Has ps p y). ⊎_elim (λ (n : (p ≡ new) × (Some k.given ≡ Some y)). let e : k.given ≡ y = same_Some k.given y n.1 in (k.given, ap (part_at t) n.0 ∙ k.given_is, subst (λ (z : P). onward z k.given) e (onward_self k.given)))
-              (λ (n : (p ≢ new) × Has o.parts p y). let l = o.fits.2 p y n.1 in let m = k.moves p l.0 q.0 l.1 in (m.0, m.1, onward_on y l.0 m.0 l.2 m.2)) (at_set o.parts new p (Some k.given) (Some y) q.1)) (at_set ps place p (Some k.part) (Some y) there),
-        );
+        old = h.meeting.known;
+        new = f.stays.part;
+        notes = refl;
+        seat = h.meeting.had;
+        has = set_else h.meeting.parts new place (Some f.given) apart ∙ h.meeting.has;
+        new_is = f.stays.part_is;
+        fits = fits_after laws f.stays (length-set h.meeting.parts new (Some f.given) ∙ h.meeting.fits.each)
+            (leads_set laws (λ p. p ≢ place) h.meeting.parts t new (Some f.given) f.given_is (leads_on laws (λ p. (p ≢ new) × (p ≢ place)) h.meeting.fits (λ p x these. f.moves p x these.1)));
       }
 
-  ended : (core t : C) (w u : View E P) (place : ℕ) (r : Result ℕ R) (z : P) → IsOut core w place → forks core place t r → part_at t place ≡ Some z → u ≡ record { from = w.from; seen = w.seen; told = w.told; seat = Some (place, z); guest = w.guest; notes = None }
-      → Answered w u place r
-  ended core t w u place r z o did now end = let l = o.fits.2 place o.part o.has in record {
-    before = core;
-    after = t;
-    history = w.seen;
-    parts = o.parts;
-    old = o.part;
-    met = l.0;
-    new = z;
-    had = o.seat;
-    fits = o.fits;
-    has = o.has;
-    begins = begins_self w.seen;
-    part = l.1;
-    onto = l.2;
-    did = did;
-    now = now;
-    view = end;
-  }
+  -- the fork was answered, where the seat has then seen the history and has the value's part
+  fork_answered : {u : MeOf C E P} {history : List E} {parts : List (Option P)} (r : Result ℕ R) (k : StaysSafe g.part_at g.onward g.places g.safe place v.from core t history parts) → g.forks core place t r
+      → u ≡ (without_turn (with_seen v h.meeting.history) (Some (place, k.part)), []) → ForkAnswered g v u.0 r
+  fork_answered r k did end = record { before = core; after = t; place = place; meeting = h.meeting; new = k.part; did = did; new_is = k.part_is; view = ap (λ z. z.0) end }
 
-  -- what the seat that had the turn has been answered
-  pub ended_refused : (core t : C) (w u : View E P) (place : ℕ) (reply : R) → IsOut core w place → forks core place t (Err reply) → u ≡ resting w (seated place (part_at t place)) → Answered w u place (Err reply)
-  ended_refused core t w u place reply o did end = let k = refused core t w place reply o did in ended core t w u place (Err reply) k.part o did k.is (end ∙ (λ i. resting w (seated place (k.is i))))
+  -- a fork was refused
+  pub refusal_outcome : {m u : MeOf C E P} (reply : R) → g.forks core place t (Err reply) → m ≡ (w.0, (0, Some t) ∷ rest w.1) → ((c : C) → Carries m c → u ≡ (without_turn m.0 (seat_at place (g.part_at c place)), [])) → IsAtRest v
+      → IsBetweenCalls u × ForkAnswered g v u.0 (Err reply)
+  refusal_outcome reply did is given rest = let k = (refusal_keeps reply did).stays in let end = handed_over g.part_at (seat_kept is) given k.part_is in (between_calls end (refl, rest.1, rest.2), fork_answered (Err reply) k did end)
 
-  -- what the new seat has
-  pub ended_forked : (core t after : C) (w v u x : View E P) (place new : ℕ) → IsOut core w place → forks core place t (Ok new) → after ≡ t → v ≡ cut_left new (part_at after new) w → u ≡ resting v (seated place (part_at t place))
-      → x ≡ cut_right new (part_at after new) w → Off w u x place new
-  unfolding ended
-  ended_forked core t after w v u x place new o did same is end came = let k = forked core t w place new o did in let given : part_at after new ≡ Some k.given = ap (λ (c : C). part_at c new) same ∙ k.given_is in
-      let end' : u ≡ record { from = w.from; seen = w.seen; told = w.told; seat = Some (place, k.part); guest = w.guest; notes = None } = end ∙ (λ i. resting (is i) (seated place (k.is i))) in
-      record { fork = ended core t w u place (Ok new) k.part o did k.is end'; part = k.given; free = k.free; is = k.given_is; view = came ∙ (λ i. cut_right new (given i) w) }
-
-  -- an answer to a seat that has taken the value, said of its view before
-  answered : (v w u : View E P) (place : ℕ) (r : Result ℕ R) (history : List E) (parts : List (Option P)) → Begins v.seen history → w ≡ taking v history parts → Answered w u place r → Answered v u place r
-  answered v w u place r history parts begins is s' = let s : Answered (taking v history parts) u place r = subst (λ (z : View E P). Answered z u place r) is s' in record {
-    before = s.before;
-    after = s.after;
-    history = s.history;
-    parts = s.parts;
-    old = s.old;
-    met = s.met;
-    new = s.new;
-    had = s.had;
-    fits = s.fits;
-    has = s.has;
-    begins = begins_trans v.seen history s.history begins s.begins;
-    part = s.part;
-    onto = s.onto;
-    did = s.did;
-    now = s.now;
-    view = s.view;
-  }
-
-  pub answered_from : (m w : Me (Option C) (View E P)) (u : View E P) (place : ℕ) (r : Result ℕ R) → Taken part_at onward places safe m w → Answered w.0 u place r → Answered m.0 u place r
-  answered_from m w u place r t s = let h = t.holds in answered m.0 w.0 u place r h.history h.parts h.begins h.view s
-
-  pub split_from : (m w : Me (Option C) (View E P)) (u o : View E P) (place new : ℕ) → Taken part_at onward places safe m w → Off w.0 u o place new → Off m.0 u o place new
-  split_from m w u o place new t s' = let h = t.holds in let s : Off (taking m.0 h.history h.parts) u o place new = subst (λ (z : View E P). Off z u o place new) h.view s' in record {
-    fork = record {
-      before = s.fork.before;
-      after = s.fork.after;
-      history = s.fork.history;
-      parts = s.fork.parts;
-      old = s.fork.old;
-      met = s.fork.met;
-      new = s.fork.new;
-      had = s.fork.had;
-      fits = s.fork.fits;
-      has = s.fork.has;
-      begins = begins_trans m.0.seen h.history s.fork.history h.begins s.fork.begins;
-      part = s.fork.part;
-      onto = s.fork.onto;
-      did = s.fork.did;
-      now = s.fork.now;
-      view = s.fork.view;
-    };
-    part = s.part;
-    free = s.free;
-    is = s.is;
-    view = s.view;
-  }
+  -- a fork was made, and the new seat has the new place
+  pub fork_outcome : {after : C} {m u o : MeOf C E P} (new : ℕ) → g.forks core place t (Ok new) → after ≡ t → m ≡ (with_note new (g.part_at after new) w.0, (0, Some t) ∷ rest w.1)
+      → ((c : C) → Carries m c → u ≡ (without_turn m.0 (seat_at place (g.part_at c place)), [])) → o ≡ (resting_view w.0.from w.0.seen (seat_at new (g.part_at after new)), []) → IsAtRest v → IsBetweenCalls u × IsBetweenCalls o × SplitOff g v u.0 o.0 new
+  unfolding fork_answered
+  fork_outcome new did same is given came rest = let f = fork_keeps new did in let end = handed_over g.part_at (seat_cut new did same is) given f.stays.part_is in
+      let part = ap (λ (c : C). g.part_at c new) same ∙ f.given_is in let end' = came ∙ (λ i. (resting_view (h.view i).from (h.view i).seen (seat_at new (part i)), [])) in (
+        between_calls end (refl, rest.1, rest.2),
+        between_calls end' (refl, refl, refl),
+        record { fork = fork_answered (Ok new) f.stays did end; given = f.given; free = f.free; given_is = f.given_is; view = ap (λ z. z.0) end' },
+      )

@@ -1,111 +1,120 @@
 -- What a join of the value leaves, by the laws of its trait.
-use Rattle.std.proofs.Common.{◌≡◌, ℕ, ◌≢◌, List, [], ◌∷◌, set, sym, refl, ap, ◌∙◌, subst, ⊎_elim, Option, Some, None, length-set}
-use Rattle.std.proofs.lemmas.Option.{same_Some, none-some}
-use Rattle.atomic_table.specs.Table.{Me}
-use Rattle.atomic_table.proofs.Lists.{at_set, set_else}
+use Rattle.std.proofs.Common.{◌≡◌, ℕ, ◌≢◌, List, [], ◌∷◌, set, sym, refl, ap, ◌∙◌, subst, Option, Some, None, length-set}
+use Rattle.atomic_table.specs.Table.{rest}
+use Rattle.atomic_table.proofs.Lists.{set_else}
 use Rattle.seat_lock.specs.declared.view.View.{View}
-use Rattle.seat_lock.specs.Parts.{Has, Joined}
-use Rattle.seat_lock.specs.Told.{Holds, Taken}
-use Rattle.seat_lock.specs.Turns.{Carries, Over, Hosts}
-use Rattle.seat_lock.specs.Outcomes.{Rejoined, TakenBack}
-use Rattle.seat_lock.specs.Views.{seated, vacated, taking, taken_in, freed, resting}
+use Rattle.seat_lock.specs.declared.stepped.Stepped.{Ghosts}
+use Rattle.seat_lock.specs.Parts.{Has, Begins, Meets, Joined}
+use Rattle.seat_lock.specs.Rule.{MeOf}
+use Rattle.seat_lock.specs.Plays.{Carries, Holds, Taken}
+use Rattle.seat_lock.specs.Turns.{IsBetweenCalls, HasGuest, MayHandOver}
+use Rattle.seat_lock.specs.Outcomes.{Meeting, MayEndAt, TakenBack}
+use Rattle.seat_lock.specs.Views.{resting_view, seat_at, with_turn, with_guest, without_guest, without_turn}
+use Rattle.seat_lock.proofs.Lists.{slot_alone}
+use Rattle.seat_lock.proofs.Meeting.{LawsOf, taken_carries, holds_found, meeting_of, meets, leads_set, leads_on, fits_after, handed_over, between_calls}
 
-module _ {C E P : Type 0} (part_at : C → ℕ → Option P) (onward : P → P → Type 0) (places : C → ℕ) (safe : C → ℕ → List E → List (Option P) → Type 0) (joins : C → ℕ → ℕ → C → Type 0) (idle : P → Type 0)
-    (onward_self : (x : P) → onward x x) (onward_on : (x y z : P) → onward x y → onward y z → onward x z) (idle_stays : (x y : P) → onward x y → idle x → idle y)
-    (join_keeps : (s t : C) (seat other from : ℕ) (history : List E) (parts : List (Option P)) (x y v w : P)
-    → safe s from history parts → seat ≢ other → Has parts seat x → part_at s seat ≡ Some y → onward x y → Has parts other v → part_at s other ≡ Some w → onward v w → idle w → joins s seat other t
-    → Joined part_at onward places safe seat other from s t history parts) where
-  abbrev Host : C → View E P → ℕ → ℕ → Type 0
-  Host = Hosts part_at onward places safe idle
+module _ {C Ev R P E : Type 0} (g : Ghosts C Ev R P E) where
+  -- the seat of this place, whose view was v, has taken in the seat of another place, whose view was o and whose part is idle, and then the value
+  pub record Hosts (core : C) (v o : View E P) (w : MeOf C E P) (place other : ℕ) : Type 0 where
+    pub meeting : Meeting g core v place
+    pub view : w.0 ≡ with_turn (with_guest v o) meeting.history meeting.parts
+    pub taken : C
+    pub carries : Carries w taken
+    pub other_known : P
+    pub other_had : o.seat ≡ Some (other, other_known)
+    pub other_has : Has meeting.parts other other_known
+    pub other_begins : Begins o.seen meeting.history
+    pub apart : place ≢ other
+    pub other_idle : g.idle other_known
 
-  kept : (core t : C) (w : View E P) (place other : ℕ) (h : Host core w place other) → joins core place other t → Joined part_at onward places safe place other w.from core t w.seen h.out.parts
-  kept core t w place other h did = let l = h.out.fits.2 place h.out.part h.out.has in let g = h.out.fits.2 other h.guest_part h.guest_has in
-      join_keeps core t place other w.from w.seen h.out.parts h.out.part l.0 h.guest_part g.0 h.out.fits.0 h.apart h.out.has l.1 l.2 h.guest_has g.1 g.2 (idle_stays h.guest_part g.0 g.2 h.rests) did
-
-  -- after the join, and the release, the value may go home
-  pub over_joined : (core t : C) (w v : View E P) (place other : ℕ) (h : Host core w place other) → joins core place other t → v ≡ freed w → Over part_at onward places safe t v place
-  over_joined core t w v place other h did is = let k = kept core t w place other h did in let o = h.out in let ps : List (Option P) = set o.parts other None in
-      subst (λ (z : View E P). Over part_at onward places safe t z place) (sym is) record {
-        parts = ps;
-        old = o.part;
-        new = k.part;
-        notes = λ i. vacated (h.guest i) (o.notes i);
-        seat = o.seat;
-        has = set_else o.parts other place None h.apart ∙ o.has;
-        part = k.is;
-        fits = (
-          k.kept,
-          length-set ps place (Some k.part) ∙ (length-set o.parts other None ∙ (o.fits.1 ∙ sym k.same)),
-          λ p y there. ⊎_elim (λ (q : (p ≡ place) × (Some k.part ≡ Some y)). let e : k.part ≡ y = same_Some k.part y q.1 in (k.part, ap (part_at t) q.0 ∙ k.is, subst (λ (z : P). onward z k.part) e (onward_self k.part)))
-              (λ (q : (p ≢ place) × Has ps p y). ⊎_elim (λ (n : (p ≡ other) × (None ≡ Some y)). absurd (none-some y n.1))
-              (λ (n : (p ≢ other) × Has o.parts p y). let l = o.fits.2 p y n.1 in let m = k.moves p l.0 q.0 n.0 l.1 in (m.0, m.1, onward_on y l.0 m.0 l.2 m.2)) (at_set o.parts other p None (Some y) q.1)) (at_set ps place p (Some k.part) (Some y) there),
-        );
+module _ {C Ev R P E : Type 0} {g : Ghosts C Ev R P E} where
+  -- a seat that took another in, and then the value
+  pub hosts : {m' w : MeOf C E P} {found : Option C} {core : C} {place : ℕ} {x : P} (m : MeOf C E P) (o : View E P) (other : ℕ) → m' ≡ (with_guest m.0 o, m.1) → Taken g m' w → m.1 ≡ [] → w.1 ≡ (0, found) ∷ rest w.1 → found ≡ Some core → m.0.seat ≡ Some (place, x)
+      → MayEndAt g o other → Hosts g core m.0 o w place other
+  hosts {m'} {w} {found} {core} {place} {x} m o other is t none value found_is seat ends = let v : View E P = with_guest m.0 o in let t' : Taken g (v, m.1) w = subst (λ (z : MeOf C E P). Taken g z w) is t in
+      let h : Holds g core v w.0 = holds_found t' none value found_is in let met : Meeting g core v place = meeting_of h seat in let guest = h.guest other ends.0 ends.1 in record {
+        meeting = record {
+          history = met.history;
+          parts = met.parts;
+          known = met.known;
+          found = met.found;
+          had = met.had;
+          fits = met.fits;
+          has = met.has;
+          begins = met.begins;
+          found_is = met.found_is;
+          moved = met.moved;
+        };
+        view = h.view;
+        taken = t'.core;
+        carries = taken_carries t' none;
+        other_known = ends.0;
+        other_had = ends.1;
+        other_has = guest.0;
+        other_begins = h.told;
+        apart = guest.1 place x seat;
+        other_idle = ends.2;
       }
 
-  -- what the seat that had the turn has done
-  pub rejoins : (core t : C) (w v u : View E P) (place other : ℕ) (h : Host core w place other) → joins core place other t → v ≡ freed w → u ≡ resting v (seated place (part_at t place)) → Rejoined part_at onward places safe joins w u place other
-  rejoins core t w v u place other h did is end = let k = kept core t w place other h did in let o = h.out in let l = o.fits.2 place o.part o.has in record {
-    before = core;
-    after = t;
-    parts = o.parts;
-    old = o.part;
-    met = l.0;
-    new = k.part;
-    others = h.guest_part;
-    had = o.seat;
-    guest = h.guest;
-    fits = o.fits;
-    has = o.has;
-    other_has = h.guest_has;
-    part = l.1;
-    onto = l.2;
-    did = did;
-    now = k.is;
-    freed = k.free;
-    view = end ∙ (λ i. resting (is i) (seated place (k.is i)));
+module _ {C Ev R P E : Type 0} {g : Ghosts C Ev R P E} (laws : LawsOf g) {core : C} {v o : View E P} {w : MeOf C E P} (t : C) (place other : ℕ) (h : Hosts g core v o w place other) where
+  -- the other seat meets the value too
+  abbrev other_meets : Meets g.part_at g.onward g.places g.safe core other v.from h.meeting.history h.meeting.parts
+  other_meets = let l = h.meeting.fits.leads other h.other_known h.other_has in record { known = h.other_known; found = l.0; is_safe = h.meeting.fits.is_safe; has = h.other_has; found_is = l.1; moved = l.2 }
+
+  -- its part in the value is idle
+  other_rests : g.idle other_meets.found
+  other_rests = laws.idle_stays h.other_known other_meets.found other_meets.moved h.other_idle
+
+  -- so the join may be made
+  pub may_join : (y : P) × (g.part_at core other ≡ Some y) × g.idle y
+  may_join = (other_meets.found, other_meets.found_is, other_rests)
+
+  -- what the join leaves
+  join_keeps : g.joins core place other t → Joined g.part_at g.onward g.places g.safe place other v.from core t h.meeting.history h.meeting.parts
+  join_keeps did = laws.join_keeps core t place other v.from h.meeting.history h.meeting.parts h.apart (meets h.meeting) other_meets other_rests did
+
+  -- the seat may give its guest's place up
+  pub has_guest : HasGuest w.0
+  has_guest = record { parts = h.meeting.parts; place = other; part = h.other_known; notes = ap (λ (z : View E P). z.notes) h.view; guest = ap (λ (z : View E P). z.guest) h.view ∙ h.other_had }
+
+  -- the seat, once it has given it up
+  seat_released : {m : MeOf C E P} → m ≡ (without_guest w.0, (0, Some t) ∷ rest w.1) → m ≡ (without_guest (with_turn (with_guest v o) h.meeting.history h.meeting.parts), (0, Some t) ∷ [])
+  seat_released is = is ∙ (λ i. (without_guest (h.view i), slot_alone w.1 (Some h.taken) (Some t) h.carries i))
+
+  -- then the value may go home
+  pub may_hand_over : {m : MeOf C E P} → g.joins core place other t → m ≡ (without_guest w.0, (0, Some t) ∷ rest w.1) → MayHandOver g m place
+  may_hand_over did is = let k = join_keeps did in let ps : List (Option P) = set h.meeting.parts other None in subst (λ (z : MeOf C E P). MayHandOver g z place) (sym (seat_released is)) record {
+    core = t;
+    carries = refl;
+    parts = ps;
+    old = h.meeting.known;
+    new = k.stays.part;
+    notes = ap (λ (s : Option (ℕ × P)). (without_guest (with_turn (with_guest v (resting_view 0 [] s)) h.meeting.history h.meeting.parts)).notes) h.other_had;
+    seat = h.meeting.had;
+    has = set_else h.meeting.parts other place None h.apart ∙ h.meeting.has;
+    new_is = k.stays.part_is;
+    fits = fits_after laws k.stays (length-set h.meeting.parts other None ∙ h.meeting.fits.each)
+        (leads_set laws (λ p. p ≢ place) h.meeting.parts t other None k.free (leads_on laws (λ p. (p ≢ other) × (p ≢ place)) h.meeting.fits (λ p x these. k.moves p x (these.1, these.0))));
   }
 
-  -- a seat that has taken the value hosts the guest that it took in
-  pub hosts_of : (m w : Me (Option C) (View E P)) (place other : ℕ) (x y : P) → m.1 ≡ [] → m.0.seat ≡ Some (place, x) → m.0.guest ≡ Some (other, y) → idle y → Taken part_at onward places safe m w → Carries w (λ core. Host core w.0 place other)
-  hosts_of m w place other x y none seat guest rests t = let h = t.holds in (
-    t.core,
-    t.carried ∙ ap (λ (l : List (ℕ × Option C)). (0, Some t.core) ∷ l) none,
-    subst (λ (z : View E P). Host t.core z place other) (sym h.view) record {
-      out = record { parts = h.parts; part = x; notes = refl; fits = h.fits; has = h.placed place x seat; seat = seat };
-      guest_part = y;
-      guest = guest;
-      guest_has = (h.guest other y guest).0;
-      apart = (h.guest other y guest).1 place x seat;
-      rests = rests;
+  -- and the other's place was taken back
+  pub join_outcome : {m u : MeOf C E P} → g.joins core place other t → m ≡ (without_guest w.0, (0, Some t) ∷ rest w.1) → ((c : C) → Carries m c → u ≡ (without_turn m.0 (seat_at place (g.part_at c place)), [])) → IsBetweenCalls u × TakenBack g v u.0 o
+  join_outcome did is given = let k = join_keeps did in let end = handed_over g.part_at (seat_released is) given k.stays.part_is in (
+    between_calls end (refl, refl, refl),
+    record {
+      before = core;
+      after = t;
+      place = place;
+      other = other;
+      meeting = h.meeting;
+      other_known = h.other_known;
+      other_had = h.other_had;
+      other_has = h.other_has;
+      other_begins = h.other_begins;
+      did = did;
+      new = k.stays.part;
+      new_is = k.stays.part_is;
+      freed = k.free;
+      view = ap (λ z. z.0) end;
     },
   )
-
-  joined : (core : C) (v o w u z : View E P) (place other : ℕ) → w ≡ taken_in v o → Holds part_at onward places safe core w u → Rejoined part_at onward places safe joins u z place other → TakenBack part_at onward places safe joins v z o place other
-  joined core v o w u z place other is holds again = let h : Holds part_at onward places safe core (taken_in v o) u = subst (λ (c : View E P). Holds part_at onward places safe core c u) is holds in
-      let a : Rejoined part_at onward places safe joins (taking (taken_in v o) h.history h.parts) z place other = subst (λ (c : View E P). Rejoined part_at onward places safe joins c z place other) h.view again in record {
-        before = a.before;
-        after = a.after;
-        history = h.history;
-        parts = a.parts;
-        old = a.old;
-        met = a.met;
-        new = a.new;
-        others = a.others;
-        had = a.had;
-        other_had = a.guest;
-        fits = a.fits;
-        has = a.has;
-        other_has = a.other_has;
-        begins = h.begins;
-        other_begins = h.told;
-        part = a.part;
-        onto = a.onto;
-        did = a.did;
-        now = a.now;
-        freed = a.freed;
-        view = a.view;
-      }
-
-  -- what it has done, said of the two views before
-  pub joined_from : (m w : Me (Option C) (View E P)) (v o z : View E P) (place other : ℕ) → m.0 ≡ taken_in v o → Taken part_at onward places safe m w → Rejoined part_at onward places safe joins w.0 z place other → TakenBack part_at onward places safe joins v z o place other
-  joined_from m w v o z place other is t again = joined t.core v o m.0 w.0 z place other is t.holds again

@@ -4,7 +4,8 @@ pub mod Turning
 pub mod Telling
 pub mod Placing
 pub mod Opening
-pub mod Making
+pub mod Meeting
+pub mod Acting
 pub mod Forking
 pub mod Joining
 pub mod Closing

@@ -2,6 +2,7 @@
 use Rattle.std.specs.Prelude.{◌≡◌, ℕ, List, [], ◌∷◌, Option, Some, None}
 use Rattle.atomic_table.specs.Seated.{TableId}
 use Rattle.seat_lock.specs.declared.view.View.{View}
+use Rattle.seat_lock.specs.Views.{resting_view, IsAtRest}
 
 -- the place of a seat, where it has one
 abbrev pub place_in : {P : Type 0} → Option (ℕ × P) → Option ℕ
@@ -20,9 +21,9 @@ module _ {E P : Type 0} where
   abbrev pub sight_of : TableId → View E P → Sight E P
   sight_of t v = record { table_id = t; from = v.from; seen = v.seen; seat = v.seat }
 
-  -- the view of a chair: it has no turn, no guest, and nothing that it was told of and has not seen
+  -- the view of a chair, which is at rest
   abbrev pub view_of : Sight E P → View E P
-  view_of s = record { from = s.from; seen = s.seen; told = []; seat = s.seat; guest = None; notes = None }
+  view_of s = resting_view s.from s.seen s.seat
 
   -- a note of a chair: it has seen as much, and has no place
   abbrev pub note_of : Sight E P → Sight E P
@@ -37,9 +38,9 @@ module _ {E P : Type 0} where
   sight t [] = record { table_id = t; from = 0; seen = []; seat = None }
   sight t (v ∷ vs) = sight_of t v
 
-  -- a badge rests where its one view has no turn, no guest and nothing to look up, and has this place
+  -- a badge rests where its one view does, and has this place
   abbrev pub IsResting : List (View E P) → Option ℕ → Type 0
-  IsResting views place = (v : View E P) × (views ≡ v ∷ []) × (v.notes ≡ None) × (v.told ≡ []) × (v.guest ≡ None) × (place ≡ place_in v.seat)
+  IsResting views place = (v : View E P) × (views ≡ v ∷ []) × IsAtRest v × (place ≡ place_in v.seat)
 
   -- the chair has a place
   abbrev pub HasPlace : Sight E P → Type 0

@@ -1,9 +1,11 @@
 pub mod Parts
+pub mod Laws
 pub mod Views
 pub mod Rule
-pub mod Told
+pub mod Plays
 pub mod Turns
 pub mod Outcomes
 pub mod Chairs
+pub mod Locks
 pub mod Counters
 pub mod CounterLaws

@@ -1,55 +1,71 @@
--- What a seat may do with the value while it has the turn.
-use Rattle.std.specs.Prelude.{◌≡◌, ◌≢◌, ℕ, Bool, true, List, [], ◌∷◌, Option, Some, slice_set}
+-- What a seat may do with the value while it has the turn, and what is left of the seat.
+use Rattle.std.specs.Prelude.{◌≡◌, ◌<◌, ℕ, List, [], Option, Some, length, slice_set}
+use Rattle.atomic_table.specs.declared.shared.Seat.{Seat}
 use Rattle.atomic_table.specs.Table.{Me}
 use Rattle.seat_lock.specs.declared.view.View.{View}
+use Rattle.seat_lock.specs.declared.stepped.Stepped.{Ghosts}
 use Rattle.seat_lock.specs.Parts.{Has}
-use Rattle.seat_lock.specs.Rule.{Fits}
+use Rattle.seat_lock.specs.Rule.{MeOf, Fits}
+use Rattle.seat_lock.specs.Plays.{Carries}
+use Rattle.seat_lock.specs.Views.{IsAtRest}
 
-module _ {C V : Type 0} where
-  -- the seat carries a value of which this is so
-  abbrev pub Carries : Me (Option C) V → (C → Type 0) → Type 0
-  Carries m Q = (core : C) × (m.1 ≡ (0, Some core) ∷ []) × Q core
+module _ {S V : Type 0} where
+  -- the seat is still the same one of the same table
+  pub record SameSeat (old new : Seat S V) : Type 0 where
+    pub table : new.table_id ≡ old.table_id
+    pub id : new.id ≡ old.id
 
-module _ {C E P : Type 0} (part_at : C → ℕ → Option P) (onward : P → P → Type 0) (places : C → ℕ) (safe : C → ℕ → List E → List (Option P) → Type 0) where
-  -- the value may go home as it is, by the seat with this view
-  pub record Held (core : C) (w : View E P) : Type 0 where
+  -- that, and this is now its view with the slots that it has taken
+  pub record Becomes (old new : Seat S V) (me : Me S V) : Type 0 where
+    pub table : new.table_id ≡ old.table_id
+    pub id : new.id ≡ old.id
+    pub me_is : new.me ≡ me
+
+module _ {S E P : Type 0} where
+  -- the seat is at rest, and has taken nothing
+  abbrev pub IsBetweenCalls : Me S (View E P) → Type 0
+  IsBetweenCalls m = (m.1 ≡ []) × IsAtRest m.0
+
+module _ {E P : Type 0} where
+  -- the seat has the turn, and notes the parts by place
+  abbrev pub HasTurn : View E P → Type 0
+  HasTurn v = (parts : List (Option P)) × (v.notes ≡ Some parts)
+
+  -- that, and it has a guest
+  pub record HasGuest (v : View E P) : Type 0 where
     pub parts : List (Option P)
-    pub notes : w.notes ≡ Some parts
-    pub fits : Fits part_at onward places safe core w.from w.seen parts
+    pub place : ℕ
+    pub part : P
+    pub notes : v.notes ≡ Some parts
+    pub guest : v.guest ≡ Some (place, part)
 
-  -- the same, and the seat has this place
-  pub record Out (core : C) (w : View E P) (place : ℕ) : Type 0 where
+  -- it has the turn, and may give this place with this part away, which no seat has
+  pub record MayGiveAway (v : View E P) (place : ℕ) (given : Option P) : Type 0 where
     pub parts : List (Option P)
     pub part : P
-    pub notes : w.notes ≡ Some parts
-    pub fits : Fits part_at onward places safe core w.from w.seen parts
-    pub has : Has parts place part
-    pub seat : w.seat ≡ Some (place, part)
+    pub notes : v.notes ≡ Some parts
+    pub within : place < length parts
+    pub free : (x : P) → Has parts place x → ⊥
+    pub given_is : given ≡ Some part
 
-  -- the value may go home, and with it the part that it has of the seat's place
-  pub record Over (core : C) (w : View E P) (place : ℕ) : Type 0 where
+module _ {C Ev R P E : Type 0} (g : Ghosts C Ev R P E) where
+  -- the value that the seat carries may go home as it is
+  pub record MayPutBack (m : MeOf C E P) : Type 0 where
+    pub core : C
+    pub carries : Carries m core
+    pub parts : List (Option P)
+    pub notes : m.0.notes ≡ Some parts
+    pub fits : Fits g core m.0.from m.0.seen parts
+
+  -- the value that the seat carries may go home, and with it the part that it has of the seat's place
+  pub record MayHandOver (m : MeOf C E P) (place : ℕ) : Type 0 where
+    pub core : C
+    pub carries : Carries m core
     pub parts : List (Option P)
     pub old : P
     pub new : P
-    pub notes : w.notes ≡ Some parts
-    pub seat : w.seat ≡ Some (place, old)
+    pub notes : m.0.notes ≡ Some parts
+    pub seat : m.0.seat ≡ Some (place, old)
     pub has : Has parts place old
-    pub part : part_at core place ≡ Some new
-    pub fits : Fits part_at onward places safe core w.from w.seen (slice_set parts place (Some new))
-
-  -- the seat of this place has a guest on another place, which is idle
-  pub record Hosts (idle : P → Type 0) (core : C) (w : View E P) (place other : ℕ) : Type 0 where
-    pub out : Out core w place
-    pub guest_part : P
-    pub guest : w.guest ≡ Some (other, guest_part)
-    pub guest_has : Has out.parts other guest_part
-    pub apart : place ≢ other
-    pub rests : idle guest_part
-
-module _ {C E P Ev : Type 0} (part_at : C → ℕ → Option P) (onward : P → P → Type 0) (places : C → ℕ) (safe : C → ℕ → List E → List (Option P) → Type 0)
-    (allowed : P → List E → Ev → Type 0) (is_enabled : C → ℕ → Ev → Bool) where
-  -- the seat of this place may make the event's step
-  pub record Ready (core : C) (w : View E P) (place : ℕ) (event : Ev) : Type 0 where
-    pub out : Out part_at onward places safe core w place
-    pub may : allowed out.part w.seen event
-    pub enabled : is_enabled core place event ≡ true
+    pub new_is : g.part_at core place ≡ Some new
+    pub fits : Fits g core m.0.from m.0.seen (slice_set parts place (Some new))

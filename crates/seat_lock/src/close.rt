@@ -1,8 +1,11 @@
 //! The end of a lock.
-ghost use Rattle.std.specs.Prelude.{◌≡◌, ◌<◌, ℕ, [], ◌∷◌, Some, IfOk, IfErr};
-ghost use Rattle.seat_lock.specs.Parts.{how_many};
+ghost use Rattle.std.specs.Prelude.{◌≡◌, ◌<◌, ℕ, Some, IfOk, IfErr};
 ghost use Rattle.seat_lock.specs.Chairs.{view_of, HasPlace};
+ghost use Rattle.seat_lock.specs.Locks.{table_of, seat_count};
 ghost use Rattle.seat_lock.specs.Outcomes.{Closed, StillShared};
+ghost use Rattle.seat_lock.specs.Parts.{how_many};
+ghost use Rattle.seat_lock.specs.Plays.{Carries};
+ghost use Rattle.seat_lock.specs.Turns.{IsBetweenCalls, SameSeat, Becomes};
 
 use crate::chair::Chair;
 use crate::lock::SeatLock;
@@ -21,10 +24,11 @@ pub struct NotClosed<C: Stepped> {
 impl<C: Stepped> SeatLock<C> {
     // How many places are out in the value that the seat has.
     fn finds_out(&self, seat: &mut SeatOf<C>) -> u32
-        requires seat { seat.old.table_id ≡ self.now.table.shared.table_id }
-        requires out { (core : C) × (seat.old.me.1 ≡ (0, Some core) ∷ []) }
-        ensures seat { (seat.new.table_id ≡ seat.old.table_id) × (seat.new.id ≡ seat.old.id) × (seat.new.me ≡ seat.old.me) }
-        ensures found { (core : C) → seat.old.me.1 ≡ (0, Some core) ∷ [] → result ≡ how_many (C.part_at core) (C.places core) }
+        requires seat { seat.old.table_id ≡ table_of self.now }
+        requires value { (core : C) × Carries seat.old.me core }
+        ensures seat { Becomes seat.old seat.new seat.old.me }
+        ensures found { (core : C) → Carries seat.old.me core
+            → result ≡ how_many (C.part_at core) (C.places core) }
     {
         let Some(core) = seat.slot_mut(&self.table.shared, 0) else {
             unreachable!()
@@ -34,11 +38,12 @@ impl<C: Stepped> SeatLock<C> {
 
     // Takes the value out for good, or gives it back where more than one place is out, and tells how many are.
     fn take_out<R: Wait>(&self, rt: &R, seat: &mut SeatOf<C>) -> Result<C, u32>
-        requires seat { (seat.old.table_id ≡ self.now.table.shared.table_id) × (seat.old.me.1 ≡ []) }
+        requires seat { (seat.old.table_id ≡ table_of self.now) × IsBetweenCalls seat.old.me }
         requires place { (p : ℕ) × (x : C.Part) × (seat.old.me.0.seat ≡ Some (p, x)) }
-        ensures seat { (seat.new.table_id ≡ seat.old.table_id) × (seat.new.id ≡ seat.old.id) }
-        ensures closed { IfOk result (λ core. Closed C.part_at C.onward C.places C.safe core seat.old.me.0) }
-        ensures shared { IfErr result (λ out. (1 < out) × (seat.new.me.1 ≡ []) × StillShared C.part_at C.onward C.places C.safe seat.old.me.0 seat.new.me.0 out) }
+        ensures seat { SameSeat seat.old seat.new }
+        ensures closed { IfOk result (λ core. Closed C.Stepped core seat.old.me.0) }
+        ensures rests { IfErr result (λ out. (1 < out) × IsBetweenCalls seat.new.me) }
+        ensures shared { IfErr result (StillShared C.Stepped seat.old.me.0 seat.new.me.0) }
     {
         self.take(rt, seat);
         let out = self.finds_out(seat);
@@ -57,11 +62,15 @@ impl<C: Stepped> SeatLock<C> {
     pub fn close<R: Wait>(self, rt: &R, chair: Chair<C::Entry, C::Part>) -> Result<C, NotClosed<C>>
     where
         C: Drop,
-        requires own { chair.table_id ≡ self.table.shared.table_id }
+        requires own { chair.table_id ≡ table_of self }
         requires place { HasPlace chair }
-        ensures closed { IfOk result (λ core. Closed C.part_at C.onward C.places C.safe core (view_of chair)) }
-        ensures shared { IfErr result (λ r. (1 < r.out) × StillShared C.part_at C.onward C.places C.safe (view_of chair) (view_of r.chair) r.out) }
-        ensures same { IfErr result (λ r. (r.lock.table.shared.table_id ≡ self.table.shared.table_id) × (r.lock.seats ≡ self.seats) × (r.chair.table_id ≡ chair.table_id)) }
+        ensures closed { IfOk result (λ core. Closed C.Stepped core (view_of chair)) }
+        ensures out { IfErr result (λ r. 1 < r.out) }
+        ensures shared { IfErr result
+            (λ r. StillShared C.Stepped (view_of chair) (view_of r.chair) r.out) }
+        ensures lock { IfErr result
+            (λ r. (table_of r.lock ≡ table_of self) × (seat_count r.lock ≡ seat_count self)) }
+        ensures chair { IfErr result (λ r. r.chair.table_id ≡ chair.table_id) }
     {
         let Chair { badge, place } = chair;
         let mut seat = badge.into_seat::<Option<C>>();

@@ -1,7 +1,7 @@
 //! A counter with sixteen places, the least that a lock can hold. Tests share it, and the cost of a step is measured on it.
-ghost use Rattle.std.specs.Prelude.{◌≡◌, ◌≤◌, ◌<◌, ℕ, [], Some, None, IsTrue};
+ghost use Rattle.std.specs.Prelude.{◌≡◌, ◌<◌, ℕ, [], Some, None};
 ghost use Rattle.seat_lock.specs.Parts.{listing, how_many};
-ghost use Rattle.seat_lock.specs.Counters.{part_of, places_of, Sound};
+ghost use Rattle.seat_lock.specs.Counters.{told_count, place_count, CountsHistory};
 
 use crate::stepped::Stepped;
 
@@ -28,10 +28,11 @@ pub enum Ask {
 impl Counter {
     /// A counter at 0, of which place 0 alone is out.
     pub fn new(limit: u64) -> Counter
-        ensures first { (result.count ≡ 0) × (result.limit ≡ limit) × (part_of result 0 ≡ Some 0) }
-        ensures alone { (p : ℕ) → 0 < p → part_of result p ≡ None }
-        ensures places { places_of result ≡ 16 }
-        ensures sound { Sound result 0 [] (listing (part_of result) 16) }
+        ensures count { (result.count ≡ 0) × (result.limit ≡ limit) }
+        ensures first { told_count result 0 ≡ Some 0 }
+        ensures alone { (p : ℕ) → 0 < p → told_count result p ≡ None }
+        ensures places { place_count result ≡ 16 }
+        ensures counts { CountsHistory result 0 [] (listing (told_count result) 16) }
     {
         let mut parts = [None; 16];
         parts[0] = Some(0);
@@ -45,7 +46,7 @@ impl Counter {
 
 /// How many places are out.
 fn places_out(counter: &Counter) -> u32
-    ensures { result ≡ how_many (part_of counter.now) (places_of counter.now) }
+    ensures { result ≡ how_many (told_count counter.now) (place_count counter.now) }
 {
     let mut out = 0;
     for place in 0..16 {
@@ -57,10 +58,11 @@ fn places_out(counter: &Counter) -> u32
 }
 
 impl Stepped for Counter {
-    ghost use Rattle.std.specs.Prelude.{◌≡◌, ◌≤◌};
-    ghost use Rattle.seat_lock.specs.Counters.{places_of, part_of, entries_of, Sound, enabled_in, after, forked_as, without_place};
-    ghost use Rattle.seat_lock.specs.CounterLaws.{counter_steps, counter_forks, counter_refuses, counter_joins};
-    ghost use Rattle.std.proofs.Common.{le_refl, le_trans};
+    ghost use Rattle.std.specs.Prelude.{◌≡◌};
+    ghost use Rattle.seat_lock.specs.Counters.{place_count, told_count, appended_by};
+    ghost use Rattle.seat_lock.specs.Counters.{enabled_in, without_place};
+    ghost use Rattle.seat_lock.specs.Counters.{CountsHistory, CounterDoes, CounterForks};
+    ghost use Rattle.seat_lock.specs.CounterLaws.{IsNoLess, counter_laws};
 
     type Event = Ask;
 
@@ -70,23 +72,23 @@ impl Stepped for Counter {
 
     type Entry = u32;
 
-    ghost places = { places_of };
+    ghost places = { place_count };
 
-    ghost part_at = { part_of };
+    ghost part_at = { told_count };
 
-    ghost appended = { entries_of };
+    ghost appended = { appended_by };
 
-    ghost safe = { Sound };
+    ghost safe = { CountsHistory };
 
-    ghost onward = { λ x y. x ≤ y };
+    ghost onward = { IsNoLess };
 
     ghost allowed = { λ _ _ _. Unit {0} };
 
     ghost is_enabled = { λ s _ event. enabled_in s event };
 
-    ghost does = { λ s seat event t reply. (t ≡ after s seat event) × (reply ≡ t.count) };
+    ghost does = { CounterDoes };
 
-    ghost forks = { λ s _ t r. forked_as s t r };
+    ghost forks = { λ s _ t r. CounterForks s t r };
 
     ghost joins = { λ s _ other t. t ≡ without_place s other };
 
@@ -131,21 +133,5 @@ impl Stepped for Counter {
         self.parts[other as usize] = None;
     }
 
-    ghost step_keeps = { λ s t seat from history parts x y event reply ok has is on may allow moved. counter_steps s t seat from y history parts event ok is moved.0 };
-
-    ghost fork_keeps = { counter_forks };
-
-    ghost refusal_keeps = { counter_refuses };
-
-    ghost join_keeps = { counter_joins };
-
-    ghost idle_stays = { λ _ _ _ _. tt };
-
-    ghost onward_self = { le_refl };
-
-    ghost onward_on = { λ x y z a b. le_trans a b };
-
-    ghost allowed_stays = { λ _ _ _ _ _ _ _ _. tt };
-
-    ghost front_counts = { λ s from history parts ok. ok.counted };
+    ghost laws = { counter_laws };
 }

@@ -5,6 +5,7 @@
 #![tactic(auto)]
 
 mod act;
+pub mod adding;
 mod chair;
 mod close;
 pub mod counter;

@@ -9,13 +9,16 @@ use crate::stepped::Stepped;
 pub struct SeatLock<C: Stepped> {
     pub(crate) table: Board<C>,
     pub(crate) seats: u32,
-    pub(crate) ghost wide: { (table.shared.table_id.words ≡ 3) × (table.shared.table_id.slots ≡ 1) },
+    pub(crate) ghost words: { table.shared.table_id.words ≡ 3 },
+    pub(crate) ghost slots: { table.shared.table_id.slots ≡ 1 },
 }
 
 impl<C: Stepped> SeatLock<C> {
+    ghost use Rattle.seat_lock.specs.Locks.{seat_count};
+
     /// How many places the value has.
     pub fn seats(&self) -> u32
-        ensures { result ≡ self.now.seats }
+        ensures { result ≡ seat_count self.now }
     {
         self.seats
     }

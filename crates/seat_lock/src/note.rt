@@ -1,8 +1,10 @@
 //! Telling another seat what one has seen. No call here waits.
-ghost use Rattle.std.specs.Prelude.{◌≡◌, List, [], ◌∷◌, None};
-ghost use Rattle.seat_lock.specs.Parts.{Begins};
-ghost use Rattle.seat_lock.specs.Views.{told_of};
+ghost use Rattle.std.specs.Prelude.{◌≡◌, List, None};
 ghost use Rattle.seat_lock.specs.Chairs.{note_of, seeing};
+ghost use Rattle.seat_lock.specs.Locks.{table_of};
+ghost use Rattle.seat_lock.specs.Parts.{Begins};
+ghost use Rattle.seat_lock.specs.Turns.{IsBetweenCalls, Becomes};
+ghost use Rattle.seat_lock.specs.Views.{with_told};
 
 use crate::chair::Chair;
 use crate::lock::SeatLock;
@@ -15,7 +17,7 @@ use std::mem;
 impl<C: Stepped> SeatLock<C> {
     /// A chair without a place, which has seen as much. It can go to another thread, whose chair learns from it.
     pub fn note(&self, chair: &mut Chair<C::Entry, C::Part>) -> Chair<C::Entry, C::Part>
-        requires { chair.old.table_id ≡ self.now.table.shared.table_id }
+        requires { chair.old.table_id ≡ table_of self.now }
         ensures same { chair.new ≡ chair.old }
         ensures note { result ≡ note_of chair.old }
     {
@@ -31,18 +33,21 @@ impl<C: Stepped> SeatLock<C> {
 
     // The seat is told of what the other has seen, which is then spent.
     fn tell<J: Starts>(&self, seat: &mut SeatOf<C>, other: SeatOf<C>)
-        requires seats { (seat.old.table_id ≡ self.now.table.shared.table_id) × (other.table_id ≡ self.now.table.shared.table_id) × (other.me.1 ≡ []) }
-        requires views { (seat.old.me.0.told ≡ []) × (other.me.0.told ≡ []) × (other.me.0.notes ≡ None) × (J.front ≡ seat.old.me.0.from) }
-        ensures { (seat.new.table_id ≡ seat.old.table_id) × (seat.new.id ≡ seat.old.id) × (seat.new.me ≡ (told_of seat.old.me.0 other.me.0, seat.old.me.1)) }
+        requires seat { (seat.old.table_id ≡ table_of self.now) × IsBetweenCalls seat.old.me }
+        requires other { (other.table_id ≡ table_of self.now) × IsBetweenCalls other.me }
+        requires front { J.front ≡ seat.old.me.0.from }
+        ensures { Becomes seat.old seat.new (with_told seat.old.me.0 other.me.0, seat.old.me.1) }
     {
         self.table.shared.join_seat::<Tell<J>>(seat, other);
     }
 
     /// Sees all of the history so far, which begins with what the chair had seen, and with what the note has.
     pub fn learn(&self, chair: &mut Chair<C::Entry, C::Part>, note: Chair<C::Entry, C::Part>)
-        requires own { (chair.old.table_id ≡ self.now.table.shared.table_id) × (note.table_id ≡ self.now.table.shared.table_id) }
+        requires own { chair.old.table_id ≡ table_of self.now }
+        requires own_note { note.table_id ≡ table_of self.now }
         requires note { note.seat ≡ None }
-        ensures { (history : List C.Entry) × Begins chair.old.seen history × Begins note.seen history × (chair.new ≡ seeing chair.old history) }
+        ensures { (history : List C.Entry) × Begins chair.old.seen history
+            × Begins note.seen history × (chair.new ≡ seeing chair.old history) }
     {
         let Chair {
             badge: told,

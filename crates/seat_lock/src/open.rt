@@ -1,7 +1,9 @@
 //! The start of a lock.
-ghost use Rattle.std.specs.Prelude.{◌≡◌, ◌<◌, [], Some, IfOk, IfErr};
-ghost use Rattle.seat_lock.specs.Parts.{listing};
-ghost use Rattle.seat_lock.specs.Views.{seated};
+ghost use Rattle.std.specs.Prelude.{◌≡◌, ◌<◌, [], IfOk, IfErr};
+ghost use Rattle.seat_lock.specs.Locks.{table_of, seat_count};
+ghost use Rattle.seat_lock.specs.Parts.{IsOut};
+ghost use Rattle.seat_lock.specs.Rule.{IsSafeAtFirst};
+ghost use Rattle.seat_lock.specs.Views.{seat_at};
 
 use crate::chair::Chair;
 use crate::lock::SeatLock;
@@ -24,10 +26,12 @@ impl<C: Stepped> SeatLock<C> {
         seats: u32,
     ) -> Result<(SeatLock<C>, Chair<C::Entry, C::Part>), NotOpened<C>>
         requires seats { (seats ≡ C.places core) × (0 < seats) }
-        requires place { (x : C.Part) × (C.part_at core 0 ≡ Some x) }
-        requires safe { C.safe core (C.front_is core) [] (listing (C.part_at core) (C.places core)) }
-        ensures ok { IfOk result (λ t. (t.1.table_id ≡ t.0.table.shared.table_id) × (t.1.from ≡ C.front_is core) × (t.1.seen ≡ []) × (t.1.seat ≡ seated 0 (C.part_at core 0))) }
-        ensures seats { IfOk result (λ t. t.0.seats ≡ seats) }
+        requires place { IsOut C.part_at core 0 }
+        requires safe { IsSafeAtFirst C.Stepped core }
+        ensures own { IfOk result (λ t. t.1.table_id ≡ table_of t.0) }
+        ensures seats { IfOk result (λ t. seat_count t.0 ≡ seats) }
+        ensures seen { IfOk result (λ t. (t.1.from ≡ C.front_is core) × (t.1.seen ≡ [])) }
+        ensures seat { IfOk result (λ t. t.1.seat ≡ seat_at 0 (C.part_at core 0)) }
         ensures err { IfErr result (λ r. r.core ≡ core) }
     {
         let about = Snapshot::of(&core);

@@ -3,7 +3,11 @@
 //! Word 0 counts the history. Word 1 is the turn: 0 while it is free, 1 while a seat has it, and 2 while another may have parked
 //! until it is given back. Word 2 changes after each change of the value, and seats whose event is not enabled park on it. The slot
 //! has the value.
-ghost use Rattle.std.specs.Prelude.{ℕ};
+ghost use Rattle.std.specs.Prelude.{ℕ, List, [], Option, None};
+ghost use Rattle.seat_lock.specs.Rule.{Ruled};
+ghost use Rattle.seat_lock.specs.Plays.{Takes, Grows, Gives, GivesBack, Stays, Looks, Releases};
+ghost use Rattle.seat_lock.specs.Views.{first_view, resting_view, seat_at};
+ghost use Rattle.seat_lock.specs.Views.{with_note, with_told, with_guest};
 
 use crate::stepped::Stepped;
 use crate::view::View;
@@ -18,10 +22,7 @@ pub struct Law<C> {
 }
 
 impl<C: Stepped> TableRule<Option<C>, View<C::Entry, C::Part>, Snapshot<C>> for Law<C> {
-    ghost use Rattle.seat_lock.specs.Rule.{Ruled};
-    ghost use Rattle.seat_lock.specs.Views.{first_view};
-
-    ghost holds = { λ key. Ruled C.part_at C.onward C.places C.safe (C.front_is key.value) };
+    ghost holds = { λ key. Ruled C.Stepped (C.front_is key.value) };
 
     ghost first = { λ key. first_view (C.front_is key.value) (C.part_at key.value 0) };
 }
@@ -42,21 +43,15 @@ pub type SeatOf<C> = Seat<Option<C>, View<<C as Stepped>::Entry, <C as Stepped>:
 pub(crate) struct Take;
 
 impl<C: Stepped> Play<Option<C>, View<C::Entry, C::Part>> for Take {
-    ghost use Rattle.seat_lock.specs.Told.{took};
-
-    ghost then = { took C.part_at C.onward C.places C.safe };
+    ghost then = { Takes C.Stepped };
 }
 
 /// Entries that a step adds, as its caller picks them.
-pub trait Adds<E> {
-    ghost use Rattle.std.specs.Prelude.{List};
-
+pub trait NewEntries<E> {
     ghost entries: { List E };
 }
 
-impl<E> Adds<E> for Brand {
-    ghost use Rattle.std.specs.Prelude.{[]};
-
+impl<E> NewEntries<E> for Brand {
     ghost entries = { [] };
 }
 
@@ -65,10 +60,8 @@ pub(crate) struct Grow<J> {
     of: PhantomData<J>,
 }
 
-impl<C: Stepped, J: Adds<C::Entry>> Play<Option<C>, View<C::Entry, C::Part>> for Grow<J> {
-    ghost use Rattle.seat_lock.specs.Told.{grew};
-
-    ghost then = { grew J.entries };
+impl<C: Stepped, J: NewEntries<C::Entry>> Play<Option<C>, View<C::Entry, C::Part>> for Grow<J> {
+    ghost then = { Grows J.entries };
 }
 
 /// The value goes home, and the seat's part becomes the value's.
@@ -77,70 +70,54 @@ pub(crate) struct Give<C> {
 }
 
 impl<C: Stepped> Play<Option<C>, View<C::Entry, C::Part>> for Give<C> {
-    ghost use Rattle.seat_lock.specs.Told.{gave};
-
-    ghost then = { gave C.part_at };
+    ghost then = { Gives C.Stepped };
 }
 
 /// The value goes home unchanged.
 pub(crate) struct Back;
 
 impl<C, E, P> Play<Option<C>, View<E, P>> for Back {
-    ghost use Rattle.seat_lock.specs.Told.{backed};
-
-    ghost then = { backed };
+    ghost then = { GivesBack };
 }
 
 /// The word that seats without an enabled event park on changes.
 pub(crate) struct Bump;
 
 impl<C, E, P> Play<Option<C>, View<E, P>> for Bump {
-    ghost use Rattle.seat_lock.specs.Told.{stayed};
-
-    ghost then = { stayed };
+    ghost then = { Stays };
 }
 
 /// A look at the whole history.
 pub(crate) struct Look;
 
 impl<C, E, P> Play<Option<C>, View<E, P>> for Look {
-    ghost use Rattle.seat_lock.specs.Told.{looked};
-
-    ghost then = { looked };
+    ghost then = { Looks };
 }
 
 /// The guest's place is given up.
 pub(crate) struct Release;
 
 impl<C, E, P> Play<Option<C>, View<E, P>> for Release {
-    ghost use Rattle.seat_lock.specs.Told.{released};
-
-    ghost then = { released };
+    ghost then = { Releases };
 }
 
 /// A view for another seat, which has seen as much and has no place.
 pub(crate) struct Note;
 
 impl<E, P> Split<View<E, P>> for Note {
-    ghost use Rattle.seat_lock.specs.Views.{noted};
-
     ghost left = { λ v. v };
 
-    ghost right = { noted };
+    ghost right = { λ v. resting_view v.from v.seen None };
 }
 
 /// A place and the part that goes with it, as their giver picks them.
 pub trait Grants<P> {
-    ghost use Rattle.std.specs.Prelude.{Option};
-
     ghost place: { ℕ };
 
     ghost given: { Option P };
 }
 
 impl<P> Grants<P> for Brand {
-    ghost use Rattle.std.specs.Prelude.{None};
-
     ghost place = { 0 };
 
     ghost given = { None };
@@ -152,11 +129,9 @@ pub(crate) struct Cut<J> {
 }
 
 impl<E, P, J: Grants<P>> Split<View<E, P>> for Cut<J> {
-    ghost use Rattle.seat_lock.specs.Views.{cut_left, cut_right};
+    ghost left = { with_note J.place J.given };
 
-    ghost left = { cut_left J.place J.given };
-
-    ghost right = { cut_right J.place J.given };
+    ghost right = { λ v. resting_view v.from v.seen (seat_at J.place J.given) };
 }
 
 /// The front at the opening, as a seat picks it that takes another in.
@@ -174,11 +149,9 @@ pub(crate) struct Tell<J> {
 }
 
 impl<E, P, J: Starts> Join<View<E, P>> for Tell<J> {
-    ghost use Rattle.seat_lock.specs.Views.{told_of, spent};
+    ghost both = { with_told };
 
-    ghost both = { told_of };
-
-    ghost spent = { spent J.front };
+    ghost spent = { resting_view J.front [] None };
 }
 
 /// The same, and it takes in the other's place.
@@ -187,9 +160,7 @@ pub(crate) struct TakeIn<J> {
 }
 
 impl<E, P, J: Starts> Join<View<E, P>> for TakeIn<J> {
-    ghost use Rattle.seat_lock.specs.Views.{taken_in, spent};
+    ghost both = { with_guest };
 
-    ghost both = { taken_in };
-
-    ghost spent = { spent J.front };
+    ghost spent = { resting_view J.front [] None };
 }

@@ -1,21 +1,14 @@
 ghost use Rattle.std.specs.Prelude.{◌<◌, ◌≤◌, All, IfSome};
 ghost use Rattle.seat_lock.specs.Chairs.{IsSeated};
+ghost use Rattle.seat_lock.specs.Locks.{table_of};
 
+use crate::adding::{add_many, split_all};
 use crate::counter::{Ask, Counter, PLACES};
 use crate::{Chair, SeatLock};
 use std::alloc::Global;
 use std::sync::Wait;
 use std::test::Fail;
 use std::thread::{Threads, for_each_mut, join_mut};
-
-fn add_many<R: Wait>(rt: &R, lock: &SeatLock<Counter>, chair: &mut Chair<u32, u64>, times: u32)
-    requires { IsSeated lock.now.table.shared.table_id chair.old }
-    ensures { IsSeated lock.now.table.shared.table_id chair.new }
-{
-    for _ in 0..times {
-        lock.act(rt, chair, Ask::Add);
-    }
-}
 
 // Each chair adds, in a thread of its own.
 fn add_each<R: Threads + Wait + Sync>(
@@ -24,16 +17,16 @@ fn add_each<R: Threads + Wait + Sync>(
     chairs: &mut [Chair<u32, u64>],
     times: u32,
 )
-    requires { All (IsSeated lock.now.table.shared.table_id) chairs.old }
-    ensures { All (IsSeated lock.now.table.shared.table_id) chairs.new }
+    requires { All (IsSeated (table_of lock.now)) chairs.old }
+    ensures { All (IsSeated (table_of lock.now)) chairs.new }
 {
     for_each_mut(
         rt,
         chairs,
         PLACES as usize,
         &|_, chair: &mut Chair<u32, u64>|
-            requires { IsSeated lock.now.table.shared.table_id chair.old }
-            ensures { IsSeated lock.entry.now.table.shared.table_id chair.new }
+            requires { IsSeated (table_of lock.now) chair.old }
+            ensures { IsSeated (table_of lock.entry.now) chair.new }
         { add_many(rt, lock, chair, times) },
     );
 }
@@ -44,34 +37,10 @@ fn add_all<R: Threads + Wait + Sync>(
     chairs: &mut Vec<Chair<u32, u64>>,
     times: u32,
 )
-    requires { All (IsSeated lock.now.table.shared.table_id) chairs.old.items }
-    ensures { All (IsSeated lock.now.table.shared.table_id) chairs.new.items }
+    requires { All (IsSeated (table_of lock.now)) chairs.old.items }
+    ensures { All (IsSeated (table_of lock.now)) chairs.new.items }
 {
     add_each(rt, lock, chairs.as_mut_slice(), times)
-}
-
-// So many new chairs. None where there is no memory, or no place for them.
-fn split_all<R: Wait>(
-    rt: &R,
-    lock: &SeatLock<Counter>,
-    alloc: Global,
-    chair: &mut Chair<u32, u64>,
-    count: u32,
-) -> Option<Vec<Chair<u32, u64>>>
-    requires { IsSeated lock.now.table.shared.table_id chair.old }
-    ensures chair { IsSeated lock.now.table.shared.table_id chair.new }
-    ensures others { IfSome result (λ others. All (IsSeated lock.now.table.shared.table_id) others.items) }
-{
-    let mut others = Vec::new(alloc);
-    for _ in 0..count {
-        let Ok(other) = lock.split(rt, chair) else {
-            return None;
-        };
-        let Ok(()) = others.push(other) else {
-            return None;
-        };
-    }
-    Some(others)
 }
 
 // The chair learns from a note of the other, and takes its place back.
@@ -81,9 +50,9 @@ fn gather<R: Wait>(
     chair: &mut Chair<u32, u64>,
     other: Chair<u32, u64>,
 )
-    requires chair { IsSeated lock.now.table.shared.table_id chair.old }
-    requires other { IsSeated lock.now.table.shared.table_id other }
-    ensures { IsSeated lock.now.table.shared.table_id chair.new }
+    requires chair { IsSeated (table_of lock.now) chair.old }
+    requires other { IsSeated (table_of lock.now) other }
+    ensures { IsSeated (table_of lock.now) chair.new }
 {
     let mut other = other;
     let note = lock.note(&mut other);
@@ -97,9 +66,9 @@ fn gather_all<R: Wait>(
     chair: &mut Chair<u32, u64>,
     others: Vec<Chair<u32, u64>>,
 )
-    requires chair { IsSeated lock.now.table.shared.table_id chair.old }
-    requires others { All (IsSeated lock.now.table.shared.table_id) others.items }
-    ensures { IsSeated lock.now.table.shared.table_id chair.new }
+    requires chair { IsSeated (table_of lock.now) chair.old }
+    requires others { All (IsSeated (table_of lock.now)) others.items }
+    ensures { IsSeated (table_of lock.now) chair.new }
 {
     let mut others = others;
     for _ in 0..others.len() {
@@ -148,9 +117,9 @@ fn take_turns<R: Wait>(
     first: u32,
     times: u32,
 )
-    requires seated { IsSeated lock.now.table.shared.table_id chair.old }
+    requires seated { IsSeated (table_of lock.now) chair.old }
     requires small { (first ≤ 1) × (times ≤ 1000) }
-    ensures { IsSeated lock.now.table.shared.table_id chair.new }
+    ensures { IsSeated (table_of lock.now) chair.new }
 {
     for k in 0..times {
         lock.act(rt, chair, Ask::Reach(u64::from(2 * k + first)));

@@ -4,8 +4,10 @@
 //! left a 2 there, and whoever gives the turn back finds it and wakes one that parks. A seat whose event is not enabled
 //! parks on the word of changes until that differs from what it was before the turn was taken. It has made the word odd, and the
 //! next change finds that and wakes all that park there.
-ghost use Rattle.std.specs.Prelude.{◌≡◌, ◌≢◌, [], ◌∷◌, Some, None, true, MatchBool};
-ghost use Rattle.seat_lock.specs.Told.{Taken};
+ghost use Rattle.std.specs.Prelude.{◌≡◌, [], None, true};
+ghost use Rattle.seat_lock.specs.Locks.{table_of};
+ghost use Rattle.seat_lock.specs.Plays.{Carries, Taken, TakenIf};
+ghost use Rattle.seat_lock.specs.Turns.{SameSeat, Becomes};
 
 use crate::lock::SeatLock;
 use crate::rule::{Bump, SeatOf};
@@ -19,9 +21,9 @@ const TRIES: u32 = 400;
 impl<C: Stepped> SeatLock<C> {
     // Tries to take the turn for a while.
     fn take_soon(&self, seat: &mut SeatOf<C>) -> bool
-        requires { (seat.old.table_id ≡ self.now.table.shared.table_id) × (seat.old.me.1 ≡ []) }
-        ensures seat { (seat.new.table_id ≡ seat.old.table_id) × (seat.new.id ≡ seat.old.id) }
-        ensures taken { MatchBool result (Taken C.part_at C.onward C.places C.safe seat.old.me seat.new.me) (seat.new.me ≡ seat.old.me) }
+        requires { (seat.old.table_id ≡ table_of self.now) × (seat.old.me.1 ≡ []) }
+        ensures seat { SameSeat seat.old seat.new }
+        ensures taken { TakenIf C.Stepped result seat.old.me seat.new.me }
     {
         for _ in 0..TRIES {
             if self.table.shared.peek(1) == 0 {
@@ -36,9 +38,9 @@ impl<C: Stepped> SeatLock<C> {
 
     // Waits until the turn is free, and takes it.
     pub(crate) fn take<R: Wait>(&self, rt: &R, seat: &mut SeatOf<C>)
-        requires { (seat.old.table_id ≡ self.now.table.shared.table_id) × (seat.old.me.1 ≡ []) }
-        ensures seat { (seat.new.table_id ≡ seat.old.table_id) × (seat.new.id ≡ seat.old.id) }
-        ensures taken { Taken C.part_at C.onward C.places C.safe seat.old.me seat.new.me }
+        requires { (seat.old.table_id ≡ table_of self.now) × (seat.old.me.1 ≡ []) }
+        ensures seat { SameSeat seat.old seat.new }
+        ensures taken { Taken C.Stepped seat.old.me seat.new.me }
     {
         if self.take_soon(seat) {
             return;
@@ -54,10 +56,11 @@ impl<C: Stepped> SeatLock<C> {
 
     // Whether the event is enabled in the value that the seat has.
     fn finds_enabled(&self, seat: &mut SeatOf<C>, place: u32, event: &C::Event) -> bool
-        requires seat { seat.old.table_id ≡ self.now.table.shared.table_id }
-        requires out { (core : C) × (seat.old.me.1 ≡ (0, Some core) ∷ []) }
-        ensures seat { (seat.new.table_id ≡ seat.old.table_id) × (seat.new.id ≡ seat.old.id) × (seat.new.me ≡ seat.old.me) }
-        ensures found { (core : C) → seat.old.me.1 ≡ (0, Some core) ∷ [] → result ≡ C.is_enabled core place event.now }
+        requires seat { seat.old.table_id ≡ table_of self.now }
+        requires value { (core : C) × Carries seat.old.me core }
+        ensures seat { Becomes seat.old seat.new seat.old.me }
+        ensures found { (core : C) → Carries seat.old.me core
+            → result ≡ C.is_enabled core place event.now }
     {
         let Some(core) = seat.slot_mut(&self.table.shared, 0) else {
             unreachable!()
@@ -67,8 +70,8 @@ impl<C: Stepped> SeatLock<C> {
 
     // Parks until the word of changes differs from the mark, which is what it was before the turn was taken.
     fn await_change<R: Wait>(&self, rt: &R, seat: &mut SeatOf<C>, mark: u64)
-        requires { seat.old.table_id ≡ self.now.table.shared.table_id }
-        ensures { (seat.new.table_id ≡ seat.old.table_id) × (seat.new.id ≡ seat.old.id) × (seat.new.me ≡ seat.old.me) }
+        requires { seat.old.table_id ≡ table_of self.now }
+        ensures { Becomes seat.old seat.new seat.old.me }
     {
         let shared = &self.table.shared;
         let found = shared.fetch_or::<Bump>(seat, 2, 1);
@@ -85,10 +88,12 @@ impl<C: Stepped> SeatLock<C> {
         place: u32,
         event: &C::Event,
     )
-        requires seat { (seat.old.table_id ≡ self.now.table.shared.table_id) × (seat.old.me.1 ≡ []) × (seat.old.me.0.notes ≡ None) }
-        ensures seat { (seat.new.table_id ≡ seat.old.table_id) × (seat.new.id ≡ seat.old.id) }
-        ensures taken { Taken C.part_at C.onward C.places C.safe seat.old.me seat.new.me }
-        ensures enabled { (core : C) → seat.new.me.1 ≡ (0, Some core) ∷ [] → C.is_enabled core place event.now ≡ true }
+        requires seat { (seat.old.table_id ≡ table_of self.now) × (seat.old.me.1 ≡ []) }
+        requires free { seat.old.me.0.notes ≡ None }
+        ensures seat { SameSeat seat.old seat.new }
+        ensures taken { Taken C.Stepped seat.old.me seat.new.me }
+        ensures enabled { (core : C) → Carries seat.new.me core
+            → C.is_enabled core place event.now ≡ true }
     {
         for _ in rt.forever() {
             let mark = self.table.shared.peek(2);

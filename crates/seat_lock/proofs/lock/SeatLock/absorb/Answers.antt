@@ -1,6 +1,6 @@
 use Rattle.std.proofs.Common.{rules}
-use Rattle.seat_lock.proofs.Placing.{takes_in}
+use Rattle.seat_lock.proofs.Placing.{take_in_keeps_rule}
 use Rattle.seat_lock.proofs.lock.SeatLock.absorb.Goals as goal
 
 pub join_seat-requires : goal.join_seat-requires
-join_seat-requires g c = let v = c.requires.views in (search rules, search rules, search rules, search rules, takes_in _ _ _ _ _ _ _ _ _ _ v.0 v.1 v.2 v.3 v.4)
+join_seat-requires g c = (search rules, search rules, search rules, search rules, take_in_keeps_rule g.C.Stepped _ _ _ _ _ _ c.requires.seat.1.1 c.requires.other.1.1 c.requires.front)

@@ -1,6 +1,6 @@
 use Rattle.std.proofs.Common.{rules}
-use Rattle.seat_lock.proofs.Placing.{releases}
+use Rattle.seat_lock.proofs.Placing.{release_keeps_rule}
 use Rattle.seat_lock.proofs.lock.SeatLock.release.Goals as goal
 
 pub load-requires : goal.load-requires
-load-requires g c = let v = c.requires.guest in (search rules, search rules, releases _ _ _ _ _ _ _ _ v.0 v.1 v.2 v.3 v.4)
+load-requires g c = (search rules, search rules, release_keeps_rule g.C.Stepped _ _ _ _ c.requires.guest)

@@ -1,18 +1,33 @@
-use Rattle.std.proofs.Common.{◌∙◌, Err}
-use Rattle.seat_lock.proofs.Making.{out_of}
-use Rattle.seat_lock.proofs.Forking.{answered_from, split_from, ok_map, err_map}
+use Rattle.std.proofs.Common.{rules, Some, refl}
+use Rattle.seat_lock.proofs.Lists.{slot_first}
+use Rattle.seat_lock.proofs.Meeting.{taken_carries, has_met}
+use Rattle.seat_lock.proofs.Forking.{may_give_away, may_hand_over_refused, may_hand_over_forked, refusal_outcome, fork_outcome}
 use Rattle.seat_lock.proofs.lock.SeatLock.split_at.Goals as goal
 
-pub fork_at-requires-clause-out : goal.fork_at-requires-clause-out
-fork_at-requires-clause-out g c = let S = g.C.Stepped in out_of S.part_at S.onward S.places S.safe c.args.seat.now.me c.take.new.seat.me c.args.place c.requires.place.0 c.requires.seat.1 c.requires.place.1 c.take.ensures.taken
+pub slot_mut-requires : goal.slot_mut-requires
+slot_mut-requires g c = let t = c.take.ensures.taken in (search rules, (Some t.core, slot_first c.take.new.seat.me.1 (Some t.core) (taken_carries t c.requires.seat.1.0)))
 
-pub returns-clause-ok : goal.returns-clause-ok
-returns-clause-ok g c = let S = g.C.Stepped in let L = g.met.C.Stepped in ok_map c.fork_at.result _ _ (λ r p. (
-  p.0 ∙ c.take.ensures.seat.0,
-  p.1,
-  split_from S.part_at S.onward S.places S.safe S.forks L.onward_self L.onward_on L.fork_keeps L.refusal_keeps c.args.seat.now.me c.take.new.seat.me c.fork_at.new.seat.me.0 r.0.me.0 c.args.place r.1 c.take.ensures.taken p.2,
-)) c.fork_at.ensures.ok
+pub fork-answer-requires-clause-out : goal.fork-answer-requires-clause-out
+fork-answer-requires-clause-out g c = let h = has_met c.take.ensures.taken c.requires.seat.1.0 c.slot_mut.ensures.value c.in-Some.is c.requires.place.1 in (h.meeting.found, h.meeting.found_is)
 
-pub returns-clause-err : goal.returns-clause-err
-returns-clause-err g c = let S = g.C.Stepped in let L = g.met.C.Stepped in err_map c.fork_at.result _ _ (λ r p.
-    answered_from S.part_at S.onward S.places S.safe S.forks L.onward_self L.onward_on L.fork_keeps L.refusal_keeps c.args.seat.now.me c.take.new.seat.me c.fork_at.new.seat.me.0 c.args.place (Err r) c.take.ensures.taken p) c.fork_at.ensures.err
+pub cut-other-requires-clause-free : goal.cut-other-requires-clause-free
+cut-other-requires-clause-free g c = let h = has_met c.take.ensures.taken c.requires.seat.1.0 c.slot_mut.ensures.value c.in-Some.is c.requires.place.1 in
+    may_give_away g.met.C.Stepped.laws c.fork-answer.new.self c.args.place h c.in-Ok.new c.in-Ok.ensures c.of-after.ensures
+
+pub hand_over-requires-clause-value : goal.hand_over-requires-clause-value
+hand_over-requires-clause-value g c = let h = has_met c.take.ensures.taken c.requires.seat.1.0 c.slot_mut.ensures.value c.in-Some.is c.requires.place.1 in
+    may_hand_over_forked g.met.C.Stepped.laws c.fork-answer.new.self c.args.place h c.in-Ok.new c.in-Ok.ensures c.of-after.ensures c.cut-other.ensures.seat.me_is
+
+pub returns-in-Ok : goal.returns-in-Ok
+returns-in-Ok g c = let h = has_met c.take.ensures.taken c.requires.seat.1.0 c.slot_mut.ensures.value c.in-Some.is c.requires.place.1 in
+    let made = fork_outcome g.met.C.Stepped.laws c.fork-answer.new.self c.args.place h c.in-Ok.new c.in-Ok.ensures c.of-after.ensures c.cut-other.ensures.seat.me_is c.hand_over.ensures.given c.cut-other.ensures.new c.requires.seat.1.1 in
+    record { seat = search rules; rests = made.0; other = (search rules, made.1); ok = made.2; err = search rules }
+
+pub hand_over-requires-in-Err-clause-value : goal.hand_over-requires-in-Err-clause-value
+hand_over-requires-in-Err-clause-value g c = let h = has_met c.take.ensures.taken c.requires.seat.1.0 c.slot_mut.ensures.value c.in-Some.is c.requires.place.1 in
+    may_hand_over_refused g.met.C.Stepped.laws c.fork-answer.new.self c.args.place h c.in-Err.reply c.in-Err.ensures refl
+
+pub returns : goal.returns
+returns g c = let h = has_met c.take.ensures.taken c.requires.seat.1.0 c.slot_mut.ensures.value c.in-Some.is c.requires.place.1 in
+    let refused = refusal_outcome g.met.C.Stepped.laws c.fork-answer.new.self c.args.place h c.in-Err.reply c.in-Err.ensures refl c.hand_over-in-Err.ensures.given c.requires.seat.1.1 in
+    record { seat = search rules; rests = refused.0; other = search rules; ok = search rules; err = refused.1 }

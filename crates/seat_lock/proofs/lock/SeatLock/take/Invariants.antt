@@ -1,5 +1,5 @@
-use Rattle.std.proofs.Common.{◌≡◌}
+use Rattle.seat_lock.specs.Turns.{Becomes}
 use Rattle.seat_lock.proofs.lock.SeatLock.take.Given as goal
 
 abbrev pub invariant-loop : goal.invariant-loop
-invariant-loop g l = (l.seat.table_id ≡ l.initial.seat.table_id) × (l.seat.id ≡ l.initial.seat.id) × (l.seat.me ≡ l.initial.seat.me)
+invariant-loop g l = Becomes l.initial.seat l.seat l.initial.seat.me

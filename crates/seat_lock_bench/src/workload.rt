@@ -1,10 +1,10 @@
-//! The words of the command line.
+//! What the command line asks for.
 use std::env;
 use std::rt::Env;
 
 /// How many threads make how many steps each, and whether to tell when each ended.
 #[derive(Drop)]
-pub struct Words {
+pub struct Workload {
     pub threads: u32,
     pub acts: u32,
     pub told: bool,
@@ -14,8 +14,8 @@ fn number_of(word: Option<String>) -> Option<u32> {
     word?.as_str().parse::<u32>().ok()
 }
 
-/// The words behind the program's name, where the first two are numbers.
-pub fn read_words<R: Env + AllocGlobal>(rt: &R) -> Option<Words> {
+/// The workload that the words behind the program's name give, where the first two are numbers.
+pub fn read_workload<R: Env + AllocGlobal>(rt: &R) -> Option<Workload> {
     let Ok(given) = env::args(rt) else {
         return None;
     };
@@ -23,7 +23,7 @@ pub fn read_words<R: Env + AllocGlobal>(rt: &R) -> Option<Words> {
     let threads = number_of(words.next())?;
     let acts = number_of(words.next())?;
     let told = words.next().is_some();
-    Some(Words {
+    Some(Workload {
         threads,
         acts,
         told,
