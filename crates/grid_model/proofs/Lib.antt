@@ -10,6 +10,7 @@ pub mod Members
 pub mod Choosing
 pub mod CutLaws
 pub mod ScaleLaws
+pub mod Filled
 pub mod Boundaries
 pub mod Bounds
 pub mod Indices
