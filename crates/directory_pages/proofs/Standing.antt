@@ -1,4 +1,4 @@
--- What stands in a page where cells are spelled: the part_head, each cell at its offset, and zeros behind them.
+-- What stands in a page where cells are spelled: the head, each cell at its offset, and zeros behind them.
 use Rattle.std.proofs.Common.{◌≡◌, ◌<◌, ◌+◌, ◌-◌, ◌*◌, ◌^◌, ℕ, List, [], ◌++◌, length, take, drop, slice_index, replicate, sym, ap, ◌∙◌, append_assoc, length-append, arith, codes, refl}
 use Rattle.std.proofs.lemmas.List.{take_at, append-nil, same_lists, get_or_default}
 use Rattle.page_fields.specs.Fields.{number, bytes_of, AreZeros}
@@ -13,7 +13,7 @@ use Rattle.directory_pages.specs.Spelling.{part_head, SpellsPart, bucket_in}
 use Rattle.directory_pages.specs.Reading.{IsPartHead}
 use Rattle.directory_pages.specs.Laws.{IsOnePart}
 
--- the part_head, field by field
+-- the head, field by field
 pub head_is : (part count : ℕ) → part_head part count ≡ codes "GFD1" ++ (bytes_of 4 part ++ (bytes_of 4 count ++ replicate 84 0))
 unfolding part_head
 head_is part count =
@@ -29,7 +29,7 @@ length-head part count =
     ∙ length-append (codes "GFD1") (a ++ (b ++ replicate 84 0))
     ∙ omega (arith, length-append a (b ++ replicate 84 0), length-append b (replicate 84 0), length-bytes_of 4 part, length-bytes_of 4 count)
 
--- a directory page is its part_head, its cells and zeros
+-- a directory page is its head, its cells and zeros
 pub page_is : (part : ℕ) (cells : List ℕ) → directory_spelling part cells ≡ part_head part (length cells) ++ (words_of cells ++ zeros_left 4 (length cells))
 unfolding directory_spelling page part_head words_of
 page_is part cells = ap (λ (body : List ℕ). part_head part (length cells) ++ body) (body_spelled 4 cells)

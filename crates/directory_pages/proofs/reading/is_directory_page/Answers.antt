@@ -1,7 +1,7 @@
 use Rattle.std.proofs.Common.{◌∙◌, sym, arith}
 use Rattle.std.proofs.lemmas.Bool.{false≢true}
 use Rattle.directory_pages.proofs.Joining.{joined, head_there, zeros_there}
-use Rattle.directory_pages.proofs.reading.decode.Goals as goal
+use Rattle.directory_pages.proofs.reading.is_directory_page.Goals as goal
 
 pub returns-then-has_head : goal.returns-then-has_head
 returns-then-has_head c = (

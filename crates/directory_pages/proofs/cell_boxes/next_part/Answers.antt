@@ -1,7 +1,7 @@
 use Rattle.std.proofs.Common.{inl, inr, arith}
 use Rattle.std.proofs.lemmas.Bool.{cases_lt}
-use Rattle.directory_pages.proofs.Boxed.{part_there}
-use Rattle.directory_pages.proofs.boxes.next_part.Goals as goal
+use Rattle.directory_pages.proofs.CellBoxPatches.{part_begins}
+use Rattle.directory_pages.proofs.cell_boxes.next_part.Goals as goal
 
 pub returns-then-holds_cell-clause-next : goal.returns-then-holds_cell-clause-next
 returns-then-holds_cell-clause-next g c = record {
@@ -16,4 +16,4 @@ returns-then-holds_cell-clause-next g c = record {
 pub returns-clause-next : goal.returns-clause-next
 returns-clause-next g c = λ part le h.
     c.loop-part.invariant part le
-    (omega (arith, part_there c.args.dims.now.n c.args.lo.now c.args.hi.now part h, c.loop-part-test.false, c.div_ceil-part-end.ensures, c.cells.ensures)) h
+    (omega (arith, part_begins c.args.dims.now.intervals c.args.cells.now part h, c.loop-part-test.false, c.div_ceil-part-end.ensures, c.cells.ensures)) h
