@@ -1,5 +1,6 @@
 //! The cells of a box that lie on a part, and the parts that hold one of them.
 ghost use Rattle.std.specs.Prelude.{◌≡◌, ◌<◌, ◌*◌, ◌%◌, ◌↔◌, ℕ, List, length, slice_index, IsTrue, IfSome, MatchOption};
+ghost use Rattle.grid_types.specs.Regions.{Within};
 ghost use Rattle.grid_model.specs.Lists.{product};
 ghost use Rattle.grid_model.specs.Cells.{cell_index};
 ghost use Rattle.grid_cells.specs.CellBoxes.{InCellBox};
@@ -10,16 +11,24 @@ use crate::set_bucket;
 use grid_cells::Dims;
 use grid_types::CellBox;
 
-/// Whether the cell lies in the box.
-fn is_in_cell_box<const K: usize>(cells: &CellBox<K>, cell: &[u32; K]) -> bool
-    ensures { IsTrue result ↔ InCellBox cells.now cell.now }
+/// Whether each interval lies between the bounds of its attribute.
+fn all_between<const K: usize>(lo: &[u32; K], cell: &[u32; K], hi: &[u32; K]) -> bool
+    ensures within { IsTrue result ↔ Within lo.now hi.now cell.now }
+    ensures count { length cell.now ≡ length lo.now }
 {
     for a in 0..K {
-        if cell[a] < cells.lo[a] || cells.hi[a] < cell[a] {
+        if cell[a] < lo[a] || hi[a] < cell[a] {
             return false;
         }
     }
     true
+}
+
+/// Whether the cell lies in the box.
+fn is_in_cell_box<const K: usize>(cells: &CellBox<K>, cell: &[u32; K]) -> bool
+    ensures { IsTrue result ↔ InCellBox cells.now cell.now }
+{
+    all_between(&cells.lo, cell, &cells.hi)
 }
 
 /// How many cells the part has.
