@@ -39,10 +39,9 @@ fn is_part_patched<const K: usize>(dims: &Dims<K>, cells: &CellBox<K>, part: u32
 }
 
 /// Whether the patch of a box changes its cells on each part, and no other.
-fn is_patched<const K: usize>(dims: &Dims<K>, lo: [u32; K], hi: [u32; K]) -> bool {
-    let cells = CellBox { lo, hi };
+fn is_patched<const K: usize>(dims: &Dims<K>, cells: &CellBox<K>) -> bool {
     for part in 0..dims.cells().div_ceil(1000) {
-        if !is_part_patched(dims, &cells, part) {
+        if !is_part_patched(dims, cells, part) {
             return false;
         }
     }
@@ -53,20 +52,60 @@ fn is_patched<const K: usize>(dims: &Dims<K>, lo: [u32; K], hi: [u32; K]) -> boo
 #[tactic(auto, using(grid_cells::proofs::Literals::literal))]
 fn cell_boxes_are_patched(rt: HostRuntime) -> Result<(), Fail> {
     let line = Dims { intervals: [1001] };
-    assert!(rt; is_patched(&line, [998], [1000]));
+    assert!(rt;
+        is_patched(
+            &line,
+            &CellBox {
+                lo: [998],
+                hi: [1000]
+            }
+        )
+    );
     let flat = Dims {
         intervals: [50, 50],
     };
-    assert!(rt; is_patched(&flat, [10, 5], [45, 20]));
-    assert!(rt; is_patched(&flat, [39, 49], [40, 0]));
+    assert!(rt;
+        is_patched(
+            &flat,
+            &CellBox {
+                lo: [10, 5],
+                hi: [45, 20]
+            }
+        )
+    );
+    assert!(rt;
+        is_patched(
+            &flat,
+            &CellBox {
+                lo: [39, 49],
+                hi: [40, 0]
+            }
+        )
+    );
     let deep = Dims {
         intervals: [11, 12, 13],
     };
-    assert!(rt; is_patched(&deep, [2, 3, 4], [9, 10, 12]));
+    assert!(rt;
+        is_patched(
+            &deep,
+            &CellBox {
+                lo: [2, 3, 4],
+                hi: [9, 10, 12]
+            }
+        )
+    );
     let whole = Dims {
         intervals: [3, 4, 5, 6],
     };
-    assert!(rt; is_patched(&whole, [1, 0, 2, 3], [1, 3, 4, 5]));
+    assert!(rt;
+        is_patched(
+            &whole,
+            &CellBox {
+                lo: [1, 0, 2, 3],
+                hi: [1, 3, 4, 5]
+            }
+        )
+    );
     Ok(())
 }
 
