@@ -48,73 +48,31 @@ fn is_patched<const K: usize>(dims: &Dims<K>, cells: &CellBox<K>) -> bool {
     true
 }
 
+/// The box between two corners.
+fn between<const K: usize>(lo: [u32; K], hi: [u32; K]) -> CellBox<K> {
+    CellBox { lo, hi }
+}
+
 #[test]
 #[tactic(auto, using(grid_cells::proofs::Literals::literal))]
 fn cell_boxes_are_patched(rt: HostRuntime) -> Result<(), Fail> {
-    let line = Dims { intervals: [1001] };
-    assert!(rt;
-        is_patched(
-            &line,
-            &CellBox {
-                lo: [998],
-                hi: [1000]
-            }
-        )
-    );
-    let flat = Dims {
-        intervals: [50, 50],
-    };
-    assert!(rt;
-        is_patched(
-            &flat,
-            &CellBox {
-                lo: [10, 5],
-                hi: [45, 20]
-            }
-        )
-    );
-    assert!(rt;
-        is_patched(
-            &flat,
-            &CellBox {
-                lo: [39, 49],
-                hi: [40, 0]
-            }
-        )
-    );
-    let deep = Dims {
-        intervals: [11, 12, 13],
-    };
-    assert!(rt;
-        is_patched(
-            &deep,
-            &CellBox {
-                lo: [2, 3, 4],
-                hi: [9, 10, 12]
-            }
-        )
-    );
-    let whole = Dims {
-        intervals: [3, 4, 5, 6],
-    };
-    assert!(rt;
-        is_patched(
-            &whole,
-            &CellBox {
-                lo: [1, 0, 2, 3],
-                hi: [1, 3, 4, 5]
-            }
-        )
-    );
+    let intervals = [1001];
+    assert!(rt; is_patched(&Dims { intervals }, &between([998], [1000])));
+    let intervals = [50, 50];
+    assert!(rt; is_patched(&Dims { intervals }, &between([10, 5], [45, 20])));
+    assert!(rt; is_patched(&Dims { intervals }, &between([39, 49], [40, 0])));
+    let intervals = [11, 12, 13];
+    assert!(rt; is_patched(&Dims { intervals }, &between([2, 3, 4], [9, 10, 12])));
+    let intervals = [3, 4, 5, 6];
+    assert!(rt; is_patched(&Dims { intervals }, &between([1, 0, 2, 3], [1, 3, 4, 5])));
     Ok(())
 }
 
 #[test]
 #[tactic(auto, using(grid_cells::proofs::Literals::literal))]
 fn parts_of_a_cell_box_are_found(rt: HostRuntime) -> Result<(), Fail> {
-    let dims = Dims {
-        intervals: [50, 50],
-    };
+    let intervals = [50, 50];
+    let dims = Dims { intervals };
     let cases = [
         ([0, 0], [49, 49], 0, Some(0)),
         ([39, 49], [45, 49], 0, Some(1)),
@@ -124,7 +82,7 @@ fn parts_of_a_cell_box_are_found(rt: HostRuntime) -> Result<(), Fail> {
         ([1, 1], [0, 9], 0, None),
     ];
     for (lo, hi, from, next) in cases {
-        assert_eq!(rt; next_part(&dims, &CellBox { lo, hi }, from), next);
+        assert_eq!(rt; next_part(&dims, &between(lo, hi), from), next);
     }
     Ok(())
 }

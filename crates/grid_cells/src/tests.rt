@@ -24,60 +24,29 @@ fn walked<const K: usize>(dims: &Dims<K>, cells: &CellBox<K>) -> Option<u32>
 #[test]
 #[tactic(auto, using(crate::proofs::Literals::literal))]
 fn walks_come_to_each_cell(rt: HostRuntime) -> Result<(), Fail> {
-    let line = Dims { intervals: [7] };
-    assert_eq!(rt; walked(&line, &CellBox { lo: [2], hi: [5] }), Some(4));
-    let flat = Dims { intervals: [3, 4] };
-    assert_eq!(rt;
-        walked(
-            &flat,
-            &CellBox {
-                lo: [0, 1],
-                hi: [2, 2]
-            }
-        ),
-        Some(6)
-    );
-    let deep = Dims {
-        intervals: [4, 3, 5],
-    };
-    assert_eq!(rt;
-        walked(
-            &deep,
-            &CellBox {
-                lo: [1, 0, 2],
-                hi: [3, 2, 4]
-            }
-        ),
-        Some(27)
-    );
-    let whole = Dims {
-        intervals: [2, 3, 4, 5],
-    };
-    assert_eq!(rt;
-        walked(
-            &whole,
-            &CellBox {
-                lo: [0; 4],
-                hi: [1, 2, 3, 4]
-            }
-        ),
-        Some(120)
-    );
-    let one = [1, 2, 0, 3];
-    assert_eq!(rt; walked(&whole, &CellBox { lo: one, hi: one }), Some(1));
+    let (intervals, lo, hi) = ([7], [2], [5]);
+    assert_eq!(rt; walked(&Dims { intervals }, &CellBox { lo, hi }), Some(4));
+    let (intervals, lo, hi) = ([3, 4], [0, 1], [2, 2]);
+    assert_eq!(rt; walked(&Dims { intervals }, &CellBox { lo, hi }), Some(6));
+    let (intervals, lo, hi) = ([4, 3, 5], [1, 0, 2], [3, 2, 4]);
+    assert_eq!(rt; walked(&Dims { intervals }, &CellBox { lo, hi }), Some(27));
+    let (intervals, lo, hi) = ([2, 3, 4, 5], [0, 0, 0, 0], [1, 2, 3, 4]);
+    assert_eq!(rt; walked(&Dims { intervals }, &CellBox { lo, hi }), Some(120));
+    let (intervals, lo, hi) = ([5, 5, 5, 5], [2, 4, 0, 3], [2, 4, 0, 3]);
+    assert_eq!(rt; walked(&Dims { intervals }, &CellBox { lo, hi }), Some(1));
     Ok(())
 }
 
 #[test]
 #[tactic(auto, using(crate::proofs::Literals::literal))]
 fn cells_have_indices(rt: HostRuntime) -> Result<(), Fail> {
-    let few = Dims { intervals: [3, 4] };
+    let intervals = [3, 4];
+    let few = Dims { intervals };
     assert_eq!(rt; few.cells(), 12);
     assert_eq!(rt; few.index(&[2, 1]), 9);
     assert_eq!(rt; few.cell(9), [2, 1]);
-    let many = Dims {
-        intervals: [100, 100, 100],
-    };
+    let intervals = [100, 100, 100];
+    let many = Dims { intervals };
     assert_eq!(rt; many.cells(), 1_000_000);
     assert_eq!(rt; many.cell(999_998), [99, 99, 98]);
     assert_eq!(rt; many.index(&[99, 98, 99]), 999_899);
