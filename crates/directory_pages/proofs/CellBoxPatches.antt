@@ -6,11 +6,10 @@ use Rattle.page_fields.specs.Fields.{bytes_of, replaced}
 use Rattle.page_fields.proofs.BytesOf.{length-bytes_of}
 use Rattle.grid_types.specs.declared.cell_box.CellBox.{CellBox}
 use Rattle.grid_model.specs.Lists.{product}
-use Rattle.grid_model.specs.Cells.{cell_index}
+use Rattle.grid_model.specs.Cells.{cell_index, InCellBox}
 use Rattle.grid_model.specs.ScaleLaws.{IsCell}
 use Rattle.grid_model.proofs.Filled.{below-more}
 use Rattle.grid_model.proofs.Indices.{cell_index-below}
-use Rattle.grid_cells.specs.CellBoxes.{InCellBox}
 use Rattle.directory_pages.specs.Spelling.{SpellsPart, bucket_in, IsBeside}
 use Rattle.directory_pages.specs.CellBoxes.{cells_on, LiesOnPart, HoldsCell, HasIndex, IsPatched, IsBesideCellBox}
 use Rattle.directory_pages.proofs.Patches.{written_there, byte_kept, bucket_kept}

@@ -2,9 +2,8 @@
 use Rattle.std.specs.Prelude.{◌≡◌, ◌<◌, ◌≤◌, ◌+◌, ◌-◌, ◌*◌, ◌/◌, ◌%◌, ℕ, List, length, min, slice_index}
 use Rattle.grid_types.specs.declared.cell_box.CellBox.{CellBox}
 use Rattle.grid_model.specs.Lists.{product}
-use Rattle.grid_model.specs.Cells.{cell_index}
+use Rattle.grid_model.specs.Cells.{cell_index, InCellBox}
 use Rattle.grid_model.specs.ScaleLaws.{IsCell}
-use Rattle.grid_cells.specs.CellBoxes.{InCellBox}
 use Rattle.directory_pages.specs.Spelling.{IsBeside}
 
 -- how many cells a part has: a thousand, or those that are left for it

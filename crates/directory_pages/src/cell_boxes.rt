@@ -2,8 +2,7 @@
 ghost use Rattle.std.specs.Prelude.{◌≡◌, ◌<◌, ◌*◌, ◌%◌, ◌↔◌, ℕ, List, length, slice_index, IsTrue, IfSome, MatchOption};
 ghost use Rattle.grid_types.specs.Regions.{Within};
 ghost use Rattle.grid_model.specs.Lists.{product};
-ghost use Rattle.grid_model.specs.Cells.{cell_index};
-ghost use Rattle.grid_cells.specs.CellBoxes.{InCellBox};
+ghost use Rattle.grid_model.specs.Cells.{cell_index, InCellBox};
 ghost use Rattle.directory_pages.specs.Spelling.{SpellsPart, bucket_in};
 ghost use Rattle.directory_pages.specs.CellBoxes.{cells_on, LiesOnPart, HoldsCell, IsNextPart, IsNoneFrom, IsPatched, IsBesideCellBox};
 

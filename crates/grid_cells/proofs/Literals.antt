@@ -5,9 +5,9 @@ use lib.Pointwise.{pointwise}
 use Rattle.grid_types.specs.declared.cell_box.CellBox.{CellBox}
 use Rattle.grid_types.proofs.Numbers.{first, second, each-at-most, as-long}
 use Rattle.grid_model.specs.Lists.{product}
+use Rattle.grid_model.specs.Cells.{InCellBox}
 use Rattle.grid_model.specs.ScaleLaws.{IsCell}
 use Rattle.grid_cells.specs.Dims.{IsDims}
-use Rattle.grid_cells.specs.CellBoxes.{InCellBox}
 
 positive-at : (ns : List ℕ) → list_all (nat_le 1) ns ≡ true → (a : ℕ) → a < length ns → 1 ≤ slice_index ns a
 positive-at [] e a p = absurd (omega (arith, p))

@@ -4,10 +4,10 @@ use Rattle.std.proofs.Math.Nat.{mul-le-mul_right}
 use Rattle.std.proofs.lemmas.Bool.{cases_lt, cases_order}
 use Rattle.grid_types.specs.declared.cell_box.CellBox.{CellBox}
 use Rattle.grid_model.specs.Lists.{product}
-use Rattle.grid_model.specs.Cells.{cell_index}
+use Rattle.grid_model.specs.Cells.{cell_index, InCellBox}
 use Rattle.grid_model.specs.ScaleLaws.{IsCell}
 use Rattle.grid_model.proofs.Indices.{cell_index-cons, cell_index-below, cell_index-grows}
-use Rattle.grid_cells.specs.CellBoxes.{InCellBox, IsNextInCellBox, IsLastInCellBox}
+use Rattle.grid_cells.specs.CellBoxes.{IsNextInCellBox, IsLastInCellBox}
 
 -- a cell lies in a box of the directory
 pub record Lies (ns lo hi cell : List ℕ) : Type 0 where

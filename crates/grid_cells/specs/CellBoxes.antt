@@ -1,13 +1,7 @@
 -- The cells of a box of cells, in the order of their indices.
-use Rattle.std.specs.Prelude.{◌≡◌, ◌<◌, ◌≤◌, ℕ, List, length}
+use Rattle.std.specs.Prelude.{◌<◌, ◌≤◌, ℕ, List}
 use Rattle.grid_types.specs.declared.cell_box.CellBox.{CellBox}
-use Rattle.grid_types.specs.Regions.{Within}
-use Rattle.grid_model.specs.Cells.{cell_index}
-
--- a cell lies in a box of cells where it has an interval for each attribute, none below the low corner's and none above the high corner's
-pub record InCellBox {K : ℕ} (b : CellBox K) (cell : List ℕ) : Type 0 where
-  pub count : length cell ≡ length b.lo
-  pub within : Within b.lo b.hi cell
+use Rattle.grid_model.specs.Cells.{cell_index, InCellBox}
 
 -- a cell follows another in a box of cells: it is the one of the least index above
 pub record IsNextInCellBox {K : ℕ} (ns : List ℕ) (b : CellBox K) (cell next : List ℕ) : Type 0 where

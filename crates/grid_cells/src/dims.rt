@@ -1,10 +1,10 @@
 //! How many intervals each attribute has, and the indices of cells.
 ghost use Rattle.std.specs.Prelude.{◌≡◌, ◌<◌, ℕ, List, MatchOption};
 ghost use Rattle.grid_model.specs.Lists.{product};
-ghost use Rattle.grid_model.specs.Cells.{cell_index};
+ghost use Rattle.grid_model.specs.Cells.{cell_index, InCellBox};
 ghost use Rattle.grid_model.specs.ScaleLaws.{IsCell};
 ghost use Rattle.grid_cells.specs.Dims.{IsDims};
-ghost use Rattle.grid_cells.specs.CellBoxes.{InCellBox, IsNextInCellBox, IsLastInCellBox};
+ghost use Rattle.grid_cells.specs.CellBoxes.{IsNextInCellBox, IsLastInCellBox};
 
 use crate::walk;
 use grid_types::CellBox;

@@ -1,5 +1,5 @@
+ghost use Rattle.grid_model.specs.Cells.{InCellBox};
 ghost use Rattle.grid_model.specs.ScaleLaws.{IsCell};
-ghost use Rattle.grid_cells.specs.CellBoxes.{InCellBox};
 
 use super::*;
 use grid_types::CellBox;

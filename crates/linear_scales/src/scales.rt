@@ -1,10 +1,9 @@
 //! A scale for each attribute.
-ghost use Rattle.std.specs.Prelude.{◌≡◌, ◌<◌, ◌≤◌, ◌↔◌, ℕ, List, [], length, replicate, slice_index_or, slice_set, IsTrue, OnOk, OnErr, IfOk, IfErr};
+ghost use Rattle.std.specs.Prelude.{◌≡◌, ◌<◌, ◌≤◌, ◌↔◌, ℕ, List, [], length, replicate, slice_index_or, IsTrue, OnOk, OnErr, IfOk, IfErr};
 ghost use Rattle.grid_types.specs.Queries.{is_straight, is_lawful};
-ghost use Rattle.grid_types.specs.Regions.{Within};
 ghost use Rattle.grid_types.specs.declared.query.Side.{Side};
-ghost use Rattle.grid_model.specs.Scales.{scale_of, interval, refined};
-ghost use Rattle.grid_model.specs.Cells.{dims, cell_of};
+ghost use Rattle.grid_model.specs.Scales.{scale_of, refined_at};
+ghost use Rattle.grid_model.specs.Cells.{dims, cell_of, InCellBox};
 ghost use Rattle.grid_model.specs.ScaleLaws.{IsCell};
 ghost use Rattle.linear_scales.specs.Limited.{LimitedScale, scales_of, limits_of};
 ghost use Rattle.linear_scales.specs.Refusals.{TakesBoundary, IsCause};
@@ -77,7 +76,7 @@ fn ranges_of<const K: usize>(scales: &[Scale], sides: &[Side; K]) -> CellBox<K>
     ensures highest { result.hi ≡ highest_cell (scales_of scales.now) sides.now }
     ensures meets { (cell : List ℕ)
         → IsCell (dims (scales_of scales.now)) cell
-        → MeetsQuery K (scales_of scales.now) sides.now cell ↔ Within result.lo result.hi cell }
+        → MeetsQuery K (scales_of scales.now) sides.now cell ↔ InCellBox result cell }
 {
     let mut lo = [0; K];
     let mut hi = [0; K];
@@ -115,10 +114,11 @@ impl<const K: usize> Scales<K> {
     pub fn refine(&mut self, a: usize, v: u64) -> Result<(), ScaleRefused>
         requires attribute { a < K }
         requires low { 1 ≤ v }
-        ensures taken { (d : LimitedScale) → OnOk result (TakesBoundary (slice_index_or self.old a d) v) }
-        ensures refused { (d : LimitedScale) → IfErr result (IsCause (slice_index_or self.old a d) v) }
-        ensures scales { OnOk result
-            (scales_of self.new ≡ slice_set (scales_of self.old) a (refined (scale_of (scales_of self.old) a) v)) }
+        ensures taken { (d : LimitedScale)
+            → OnOk result (TakesBoundary (slice_index_or self.old a d) v) }
+        ensures refused { (d : LimitedScale)
+            → IfErr result (IsCause (slice_index_or self.old a d) v) }
+        ensures scales { OnOk result (scales_of self.new ≡ refined_at (scales_of self.old) a v) }
         ensures limits { limits_of self.new ≡ limits_of self.old }
         ensures unchanged { OnErr result (self.new ≡ self.old) }
     {
@@ -155,7 +155,7 @@ impl<const K: usize> Scales<K> {
         ensures highest { result.hi ≡ highest_cell (scales_of self.now) query.now.sides }
         ensures meets { (cell : List ℕ)
             → IsCell (dims (scales_of self.now)) cell
-            → MeetsQuery K (scales_of self.now) query.now.sides cell ↔ Within result.lo result.hi cell }
+            → MeetsQuery K (scales_of self.now) query.now.sides cell ↔ InCellBox result cell }
     {
         ranges_of(&self.scales, &query.sides)
     }

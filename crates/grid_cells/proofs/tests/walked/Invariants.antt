@@ -1,4 +1,4 @@
-use Rattle.grid_cells.specs.CellBoxes.{InCellBox}
+use Rattle.grid_model.specs.Cells.{InCellBox}
 use Rattle.grid_cells.proofs.tests.walked.Given as goal
 
 abbrev pub invariant-loop-i : goal.invariant-loop-i

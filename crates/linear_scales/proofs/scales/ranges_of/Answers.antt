@@ -31,4 +31,4 @@ returns-clause-highest g c =
 
 pub returns-clause-meets : goal.returns-clause-meets
 returns-clause-meets g c =
-    query-meets g.row.K c.args.scales.now c.args.sides.now c.loop-a.lo c.loop-a.hi c.requires.count c.told-sides (λ k p. c.loop-a.invariant.each k (omega (arith, p, c.loop-a-test.false)))
+    query-meets c.args.scales.now c.args.sides.now (record { lo = c.loop-a.lo; hi = c.loop-a.hi }) c.requires.count c.told-sides c.loop-a.invariant.low (λ k p. c.loop-a.invariant.each k (omega (arith, p, c.loop-a-test.false)))
