@@ -55,7 +55,7 @@ impl Model for Scale {
 }
 
 impl Scale {
-    /// A scale without boundaries, which may get so many.
+    /// A scale without boundaries. All memory for boundaries up to the limit is taken here.
     pub fn new(alloc: Global, limit: u16) -> Result<Scale, AllocError>
         ensures { IfOk result (λ s. s ≡ record { boundaries = []; limit = limit }) }
     {
