@@ -6,7 +6,7 @@ use Rattle.page_fields.specs.Padded.{numbers}
 use Rattle.page_fields.proofs.Bodies.{zeros_left, body_read}
 use Rattle.page_fields.proofs.Entries.{AreBytes, number_is, entries_in, length-entries_in, entries_fit}
 use Rattle.page_fields.proofs.ZeroParts.{zeros_are}
-use Rattle.directory_pages.specs.Spelling.{part_head, IsPart}
+use Rattle.directory_pages.specs.Spelling.{part_head, IsDirectoryPage}
 use Rattle.directory_pages.specs.Reading.{IsPartHead}
 use Rattle.directory_pages.proofs.Standing.{head_is, page_is, part_there}
 
@@ -24,8 +24,8 @@ body_joined : (count : ℕ) (page : List ℕ) → count ≤ 1000 → AreZeros (9
 unfolding numbers
 body_joined count page few zeros long fits = body_read 4 count page (omega (arith, few)) zeros long fits
 
--- a page with that head, and zeros behind so many cells, is that part
-pub joined : (part count : ℕ) (page : List ℕ) → part < 2 ^ 32 → count ≤ 1000 → length page ≡ 4096 → AreBytes page → IsPartHead part count page → AreZeros (96 + 4 * count) 4096 page → IsPart part count page
+-- a page with that head, and zeros behind so many cells, is the page of that part
+pub joined : (part count : ℕ) (page : List ℕ) → part < 2 ^ 32 → count ≤ 1000 → length page ≡ 4096 → AreBytes page → IsPartHead part count page → AreZeros (96 + 4 * count) 4096 page → IsDirectoryPage part count page
 joined part count page fit few long fits h zeros =
     let cells = entries_in 4 96 count page in
     let size : length cells ≡ count = length-entries_in 4 96 count page in
@@ -41,10 +41,10 @@ joined part count page fit few long fits h zeros =
       };
     }
 
--- that part has that head
-pub head_there : (part count : ℕ) (page : List ℕ) → IsPart part count page → IsPartHead part count page
+-- the page of that part has that head
+pub head_there : (part count : ℕ) (page : List ℕ) → IsDirectoryPage part count page → IsPartHead part count page
 head_there part count page p = subst (λ (n : ℕ). IsPartHead part n page) p.count_is (part_there part page p.cells p.spelled).front
 
 -- behind its cells stand zeros
-pub zeros_there : (part count : ℕ) (page : List ℕ) → IsPart part count page → AreZeros (96 + 4 * count) 4096 page
+pub zeros_there : (part count : ℕ) (page : List ℕ) → IsDirectoryPage part count page → AreZeros (96 + 4 * count) 4096 page
 zeros_there part count page p = subst (λ (n : ℕ). AreZeros (96 + 4 * n) 4096 page) p.count_is (part_there part page p.cells p.spelled).zeros

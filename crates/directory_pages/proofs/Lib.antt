@@ -3,4 +3,4 @@ pub mod Standing
 pub mod Joining
 pub mod Setting
 pub mod Patches
-pub mod Boxed
+pub mod CellBoxPatches

@@ -11,7 +11,7 @@ use Rattle.byteorder.specs.Endian.{big_from}
 use Rattle.page_fields.specs.Fields.{number, bytes_of, replaced}
 use Rattle.page_fields.proofs.BytesOf.{length-bytes_of, number-back}
 use Rattle.grid_model.specs.Lists.{is_among}
-use Rattle.directory_pages.specs.Spelling.{SpellsPart, bucket_in}
+use Rattle.directory_pages.specs.Spelling.{SpellsPart, bucket_in, IsBeside}
 use Rattle.directory_pages.specs.Patching.{bucket_after, patched, IsBesideCells}
 
 pub length-patched : (is : List ℕ) (x : ℕ) (cells : List ℕ) → length (patched is x cells) ≡ length cells
@@ -105,14 +105,14 @@ outside_front : (is : List ℕ) (n k : ℕ) → n < length is → IsBesideCells 
 outside_front is n k lt out j h =
     let low : j < n = omega (arith, h, length-take-le n is (omega arith)) in
     let same : slice_index (take (n + 1) is) j ≡ slice_index (take n is) j = get_or-take (n + 1) is j 0 (omega arith) ∙ sym (get_or-take n is j 0 low) in
-    subst (λ (i : ℕ). (k < 96 + 4 * i) ⊎ (96 + 4 * i + 4 ≤ k)) same (out j (omega (arith, length-take-le (n + 1) is (omega arith))))
+    subst (λ (i : ℕ). IsBeside i k) same (out j (omega (arith, length-take-le (n + 1) is (omega arith))))
 
 -- each byte outside of the cells that are named is as it was
 pub others_more : (is : List ℕ) (n x : ℕ) (first old new : List ℕ) → n < length is → new ≡ replaced (96 + 4 * slice_index is n) (bytes_of 4 x) old → 96 + 4 * slice_index is n + 4 ≤ length old
     → ((k : ℕ) → IsBesideCells (take n is) k → slice_index old k ≡ slice_index first k) → (k : ℕ) → IsBesideCells (take (n + 1) is) k → slice_index new k ≡ slice_index first k
 others_more is n x first old new lt e le before k out =
     let j = slice_index is n in
-    let here = subst (λ (i : ℕ). (k < 96 + 4 * i) ⊎ (96 + 4 * i + 4 ≤ k)) (get_or-take (n + 1) is n 0 (omega arith)) (out n (omega (arith, length-take-le (n + 1) is (omega arith)))) in
+    let here = subst (λ (i : ℕ). IsBeside i k) (get_or-take (n + 1) is n 0 (omega arith)) (out n (omega (arith, length-take-le (n + 1) is (omega arith)))) in
     byte_kept (96 + 4 * j) 4 k (bytes_of 4 x) old new e (length-bytes_of 4 x) le here ∙ before k (outside_front is n k lt out)
 
 -- the cells that are spelled

@@ -2,4 +2,4 @@ pub mod Spelling
 pub mod Reading
 pub mod Patching
 pub mod Laws
-pub mod Boxes
+pub mod CellBoxes

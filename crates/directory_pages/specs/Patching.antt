@@ -1,6 +1,7 @@
 -- What a patch makes of the cells of a part.
-use Rattle.std.specs.Prelude.{◌<◌, ◌≤◌, ◌+◌, ◌*◌, ◌⊎◌, ℕ, List, length, map, slice_index, if◌then◌else◌}
+use Rattle.std.specs.Prelude.{◌<◌, ℕ, List, length, map, slice_index, if◌then◌else◌}
 use Rattle.grid_model.specs.Lists.{below, is_among}
+use Rattle.directory_pages.specs.Spelling.{IsBeside}
 
 -- each of these is the index of one of n cells
 abbrev pub AreCells : ℕ → List ℕ → Type 0
@@ -16,4 +17,4 @@ patched indices bucket cells = map (bucket_after indices bucket cells) (below (l
 
 -- the byte at k of a page is in none of these cells
 abbrev pub IsBesideCells : List ℕ → ℕ → Type 0
-IsBesideCells indices k = (j : ℕ) → j < length indices → (k < 96 + 4 * slice_index indices j) ⊎ (96 + 4 * slice_index indices j + 4 ≤ k)
+IsBesideCells indices k = (j : ℕ) → j < length indices → IsBeside (slice_index indices j) k

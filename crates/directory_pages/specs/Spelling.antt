@@ -1,5 +1,5 @@
 -- What a page says as a part of the directory.
-use Rattle.std.specs.Prelude.{◌≡◌, ◌<◌, ◌≤◌, ◌^◌, ◌+◌, ◌*◌, ℕ, List, ◌++◌, length, drop, slice_index, codes}
+use Rattle.std.specs.Prelude.{◌≡◌, ◌<◌, ◌≤◌, ◌^◌, ◌+◌, ◌*◌, ◌⊎◌, ℕ, List, ◌++◌, length, drop, slice_index, codes}
 use Rattle.page_fields.specs.Fields.{number, bytes_of}
 use Rattle.page_fields.specs.Padded.{padded}
 use Rattle.grid_model.specs.Spellings.{directory_spelling}
@@ -15,8 +15,8 @@ pub record SpellsPart (part : ℕ) (page cells : List ℕ) : Type 0 where
   pub few : length cells ≤ 1000
   pub bytes : page ≡ directory_spelling part cells
 
--- a page is that part with so many cells: there are as many cells that it spells
-pub record IsPart (part count : ℕ) (page : List ℕ) : Type 0 where
+-- a page is the directory page of a part with so many cells: there are as many cells that it spells
+pub record IsDirectoryPage (part count : ℕ) (page : List ℕ) : Type 0 where
   pub cells : List ℕ
   pub count_is : length cells ≡ count
   pub spelled : SpellsPart part page cells
@@ -24,3 +24,7 @@ pub record IsPart (part count : ℕ) (page : List ℕ) : Type 0 where
 -- the number in the four bytes of a cell
 abbrev pub bucket_in : ℕ → List ℕ → ℕ
 bucket_in i page = number 4 (drop (96 + 4 * i) page)
+
+-- the byte at k of a page is not in the four bytes of cell i
+abbrev pub IsBeside : ℕ → ℕ → Type 0
+IsBeside i k = (k < 96 + 4 * i) ⊎ (96 + 4 * i + 4 ≤ k)

@@ -2,7 +2,7 @@
 //! of its cells.
 #![tactic(auto)]
 
-mod boxes;
+mod cell_boxes;
 mod cells;
 mod laws;
 mod parts;
@@ -10,15 +10,15 @@ mod patching;
 mod reading;
 mod writing;
 
-pub use boxes::{next_part, patch_box};
+pub use cell_boxes::{next_part, patch_cell_box};
 pub use cells::{bucket_at, set_bucket};
 pub use laws::spelling_law;
 pub use parts::part_of;
 pub use patching::patch;
-pub use reading::decode;
+pub use reading::is_directory_page;
 pub use writing::encode;
 
 #[cfg(test)]
-mod box_tests;
+mod cell_box_tests;
 #[cfg(test)]
 mod tests;

@@ -1,6 +1,6 @@
 //! Whether a page is a directory page.
 ghost use Rattle.std.specs.Prelude.{◌≤◌, ◌↔◌, IsTrue};
-ghost use Rattle.directory_pages.specs.Spelling.{IsPart};
+ghost use Rattle.directory_pages.specs.Spelling.{IsDirectoryPage};
 ghost use Rattle.directory_pages.specs.Reading.{IsPartHead};
 
 use page_fields::{get_u32, zeros};
@@ -15,11 +15,11 @@ fn has_head(page: &[u8; 4096], part: u32, count: u32) -> bool
         && zeros(page, 12, 96)
 }
 
-/// Whether this is the page of that part with so many cells. `bucket_at` reads the cells.
-pub fn decode(page: &[u8; 4096], part: u32, count: u32) -> bool
+/// Whether this is the directory page of that part with so many cells. `bucket_at` reads the cells.
+pub fn is_directory_page(page: &[u8; 4096], part: u32, count: u32) -> bool
     requires some { 1 ≤ count }
     requires few { count ≤ 1000 }
-    ensures { IsTrue result ↔ IsPart part count page.now }
+    ensures { IsTrue result ↔ IsDirectoryPage part count page.now }
 {
     has_head(page, part, count) && zeros(page, 96 + 4 * count as usize, 4096)
 }

@@ -12,7 +12,7 @@ fn numbers() -> [u32; 1000] {
     cells
 }
 
-/// Whether a page has exactly these cells, by `decode` and `bucket_at`.
+/// Whether a page has exactly these cells, by `is_directory_page` and `bucket_at`.
 fn holds(page: &[u8; 4096], part: u32, cells: &[u32]) -> bool
     requires some { 1 ≤ length cells.now }
     requires few { length cells.now ≤ 1000 }
@@ -22,7 +22,7 @@ fn holds(page: &[u8; 4096], part: u32, cells: &[u32]) -> bool
             return false;
         }
     }
-    decode(page, part, cells.len() as u32)
+    is_directory_page(page, part, cells.len() as u32)
 }
 
 /// Whether a directory of so many cells is read back from its page, and again after its first, its middle and its last
@@ -77,9 +77,9 @@ fn a_page_is_laid_out(rt: HostRuntime) -> Result<(), Fail> {
     set_bucket(&mut page, 1, 65536);
     expected[101..104].copy_from_slice(&[1, 0, 0]);
     assert!(rt; page == expected);
-    assert!(rt; !decode(&page, 2, 1));
-    assert!(rt; !decode(&page, 2, 3));
-    assert!(rt; !decode(&page, 1, 2));
+    assert!(rt; !is_directory_page(&page, 2, 1));
+    assert!(rt; !is_directory_page(&page, 2, 3));
+    assert!(rt; !is_directory_page(&page, 1, 2));
     Ok(())
 }
 
@@ -94,7 +94,7 @@ fn is_judged(part: u32, count: usize) -> bool
     for i in 0..4096 {
         let mut page = first;
         page[i] ^= 1;
-        if decode(&page, part, count as u32) != (96 <= i && i < 96 + 4 * count) {
+        if is_directory_page(&page, part, count as u32) != (96 <= i && i < 96 + 4 * count) {
             return false;
         }
     }

@@ -33,7 +33,7 @@ impl<const K: usize> Gathered<K> {
             → IsRootOn shape.now (header_page r.number) r
             → IfOk result (HasGathered shape.now image r 0) }
     {
-        let scales = Scales::new(alloc, shape.boundaries)?;
+        let scales = Scales::new(alloc, shape.boundaries as u16)?;
         let marks = vec![in alloc; false; shape.pages as usize]?;
         Ok(Gathered {
             scales,

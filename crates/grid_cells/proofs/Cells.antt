@@ -1,14 +1,13 @@
 -- The cell at an index, attribute by attribute.
-use Rattle.std.proofs.Common.{◌⊎◌, inl, inr, ◌≢◌, ◌≡◌, ◌<◌, ◌≤◌, ◌+◌, ◌*◌, ◌/◌, ◌%◌, ℕ, List, [], ◌∷◌, ◌++◌, length, slice_index, slice_set, take, drop, map, slice_get, refl, sym, ap, ◌∙◌, subst, arith, append_assoc}
+use Rattle.std.proofs.Common.{◌≡◌, ◌<◌, ◌≤◌, ◌+◌, ◌*◌, ◌/◌, ◌%◌, ℕ, List, [], ◌∷◌, ◌++◌, length, slice_index, slice_set, take, drop, refl, sym, ap, ◌∙◌, subst, arith, append_assoc}
 use Rattle.std.proofs.Math.Nat.{div-lt_iff_lt-mul}
-use Rattle.std.proofs.lemmas.Bool.{cases_lt}
 use Rattle.std.proofs.lemmas.Nat.{div-add-mod', mod_below}
-use Rattle.std.proofs.lemmas.Option.{same_Some}
-use Rattle.std.proofs.lemmas.List.{drop_more, drop_all, take_all, append-nil, length-set, take_more_set, get_or-set_same, get_or-set_other}
-use Rattle.grid_model.specs.Lists.{product, choices, below}
+use Rattle.std.proofs.lemmas.List.{drop_more, drop_all, take_all, append-nil, length-set, take_more_set}
+use Rattle.grid_model.specs.Lists.{product}
 use Rattle.grid_model.specs.Cells.{cell_index}
 use Rattle.grid_model.specs.ScaleLaws.{IsCell}
-use Rattle.grid_model.proofs.Indices.{cell_index-cons, cell-on, cell-there}
+use Rattle.grid_model.proofs.Filled.{step}
+use Rattle.grid_model.proofs.Indices.{cell_index-cons, cell-on}
 use Rattle.grid_cells.proofs.Products.{Positive, rest-positive, product-rest, size-step}
 
 -- what is left of an index is that of the other attributes: any cell of them there makes the whole cell
@@ -31,22 +30,6 @@ completes-more ns cell a rest size at p q s e r h d c f =
     (subst (λ (ms : List ℕ). IsCell ms (digit ∷ d)) (sym first) (cell-on n digit (drop (a + 1) ns) d (interval-below ns a rest size p s e r) c))
     (ap (λ ms. cell_index ms (digit ∷ d)) first ∙ there) in
     ap (λ xs. cell_index ns (xs ++ d)) (take_more_set cell a digit q) ∙ ap (cell_index ns) (append_assoc (take a cell) (digit ∷ []) d) ∙ whole
-
--- no two cells have one index
-pub one-cell : (ns c d : List ℕ) → IsCell ns c → IsCell ns d → cell_index ns c ≡ cell_index ns d → c ≡ d
-one-cell ns c d h g e = same_Some c d (sym (cell-there ns c h) ∙ ap (slice_get (choices (map below ns))) e ∙ cell-there ns d g)
-
--- the intervals that are there and one more are intervals of their attributes
-pub each-more : (ns cell : List ℕ) (a v : ℕ) → a < length cell → ((k : ℕ) → k < a → slice_index cell k < slice_index ns k) → v < slice_index ns a → (k : ℕ) → k < a + 1 → slice_index (slice_set cell a v) k < slice_index ns k
-each-more ns cell a v p below here k q = by (cases_lt k a)
-  where
-    by : (k < a) ⊎ (a ≤ k) → slice_index (slice_set cell a v) k < slice_index ns k
-    by (inl r) =
-        let other : k ≢ a = omega (arith, r) in
-        omega (arith, get_or-set_other cell a k v 0 other, below k r)
-    by (inr r) =
-        let same : a ≡ k = omega (arith, q, r) in
-        subst (λ (j : ℕ). slice_index (slice_set cell a v) j < slice_index ns j) same (omega (arith, get_or-set_same cell a v 0 p, here))
 
 -- where nothing is left, the cell is whole
 pub completed : (ns cell : List ℕ) (a rest at : ℕ) → length ns ≤ a → length cell ≤ a → rest ≡ 0 → Completes ns cell a rest at → cell_index ns cell ≡ at
@@ -75,7 +58,7 @@ deal ns cell a size rest at h p d =
       count = length-set cell a (rest / (size / slice_index ns a)) ∙ d.count;
       whole = smaller;
       below = mod_below rest (size / slice_index ns a) some;
-      each = each-more ns cell a (rest / (size / slice_index ns a)) inside d.each (interval-below ns a rest (size / slice_index ns a) p some smaller few);
+      each = step (λ k x. x < slice_index ns k) cell a (rest / (size / slice_index ns a)) inside d.each (interval-below ns a rest (size / slice_index ns a) p some smaller few);
       completes = completes-more ns cell a rest (size / slice_index ns a) at p inside some smaller few d.completes;
     }
 

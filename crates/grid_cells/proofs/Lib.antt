@@ -3,7 +3,4 @@ pub mod Cells
 pub mod Walks
 pub mod Literals
 pub mod Images
-pub mod Sides
-pub mod OneCell
-pub mod Finding
 pub mod Names

@@ -1,12 +1,13 @@
--- The conditions of cells and boxes as tests, which compute.
+-- The conditions of cells and boxes of cells as tests, which compute.
 use Rattle.std.proofs.Common.{◌≡◌, ◌<◌, ◌≤◌, ℕ, zero, suc, true, true≢false, List, [], ◌∷◌, length, slice_index, nat_le, nat_lt, refl, sym, ap, arith, leb-true, ltb-true}
 use Rattle.std.specs.List.{list_all}
 use lib.Pointwise.{pointwise}
+use Rattle.grid_types.specs.declared.cell_box.CellBox.{CellBox}
 use Rattle.grid_types.proofs.Numbers.{first, second, each-at-most, as-long}
 use Rattle.grid_model.specs.Lists.{product}
+use Rattle.grid_model.specs.Cells.{InCellBox}
 use Rattle.grid_model.specs.ScaleLaws.{IsCell}
 use Rattle.grid_cells.specs.Dims.{IsDims}
-use Rattle.grid_cells.specs.Boxes.{InBox}
 
 positive-at : (ns : List ℕ) → list_all (nat_le 1) ns ≡ true → (a : ℕ) → a < length ns → 1 ≤ slice_index ns a
 positive-at [] e a p = absurd (omega (arith, p))
@@ -32,10 +33,10 @@ dims-by-test ns e f = record { each = positive-at ns e; few = leb-true (product 
 pub cell-by-test : (ns cell : List ℕ) → pointwise nat_lt cell ns ≡ true → IsCell ns cell
 cell-by-test ns cell e = record { count = below-long cell ns e; each = below-at cell ns e }
 
-pub box-by-test : (lo hi cell : List ℕ) → pointwise nat_le lo cell ≡ true → pointwise nat_le cell hi ≡ true → InBox lo hi cell
-box-by-test lo hi cell e f = record {
-  count = sym (as-long lo cell e);
-  within = λ a p. (each-at-most lo cell a e (omega (arith, p, as-long lo cell e)), each-at-most cell hi a f p);
+pub cell_box-by-test : {K : ℕ} (b : CellBox K) (cell : List ℕ) → pointwise nat_le b.lo cell ≡ true → pointwise nat_le cell b.hi ≡ true → InCellBox b cell
+cell_box-by-test b cell e f = record {
+  count = sym (as-long b.lo cell e);
+  within = λ a p. (each-at-most b.lo cell a e (omega (arith, p, as-long b.lo cell e)), each-at-most cell b.hi a f p);
 }
 
-pub ruleset literal = (dims-by-test, cell-by-test, box-by-test)
+pub ruleset literal = (dims-by-test, cell-by-test, cell_box-by-test)

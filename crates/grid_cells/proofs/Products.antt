@@ -1,12 +1,11 @@
 -- Products of numbers that are at least 1, and indices that are built up by attribute.
-use Rattle.std.proofs.Common.{◌≡◌, ◌<◌, ◌≤◌, ◌+◌, ◌*◌, ◌/◌, ℕ, zero, suc, List, [], ◌∷◌, length, slice_index, drop, fold, zip, map, sym, ap, ◌∙◌, arith}
+use Rattle.std.proofs.Common.{◌≡◌, ◌<◌, ◌≤◌, ◌+◌, ◌*◌, ◌/◌, ℕ, zero, suc, List, [], ◌∷◌, length, slice_index, drop, fold, zip, sym, ap, ◌∙◌, arith}
 use Rattle.std.proofs.Math.Nat.{mul_assoc, le-mul_of_pos_right, one-le-mul, mul-div_cancel_left}
 use Rattle.std.proofs.lemmas.List.{drop_more, drop_all}
-use Rattle.std.proofs.lemmas.Option.{slice_get_within}
-use Rattle.grid_model.specs.Lists.{product, choices, below}
+use Rattle.grid_model.specs.Lists.{product}
 use Rattle.grid_model.specs.Cells.{cell_index}
 use Rattle.grid_model.specs.ScaleLaws.{IsCell}
-use Rattle.grid_model.proofs.Indices.{cell-there, cells-counted}
+use Rattle.grid_model.proofs.Indices.{cell_index-below}
 use Rattle.grid_cells.specs.Dims.{IsDims}
 
 -- each number is at least 1
@@ -44,10 +43,6 @@ onward at ns cell = fold (λ at p. at * p.0 + p.1) at (zip ns cell)
 -- the next attribute
 pub cell_index-step : (ns cell : List ℕ) (at a : ℕ) → a < length ns → a < length cell → onward at (drop a ns) (drop a cell) ≡ cell_index ns cell → onward (at * slice_index ns a + slice_index cell a) (drop (a + 1) ns) (drop (a + 1) cell) ≡ cell_index ns cell
 cell_index-step ns cell at a p q e = sym (λ i. onward at (drop_more ns a 0 p i) (drop_more cell a 0 q i)) ∙ e
-
--- a cell's index is below the number of cells
-pub cell_index-below : (ns cell : List ℕ) → IsCell ns cell → cell_index ns cell < product ns
-cell_index-below ns cell h = omega (arith, slice_get_within (choices (map below ns)) (cell_index ns cell) cell (cell-there ns cell h), cells-counted ns)
 
 -- what is built up is at most the index
 pub onward-grows : (ns cell : List ℕ) (at : ℕ) → Positive ns → at ≤ onward at ns cell

@@ -2,12 +2,12 @@
 use Rattle.std.proofs.Common.{◌≡◌, ◌<◌, ◌≤◌, ◌+◌, ◌*◌, ◌⊎◌, inl, inr, ℕ, zero, suc, List, [], ◌∷◌, ◌++◌, length, slice_index, take, drop, sym, ap, ◌∙◌, subst, arith}
 use Rattle.std.proofs.Math.Nat.{mul-le-mul_right}
 use Rattle.std.proofs.lemmas.Bool.{cases_lt, cases_order}
+use Rattle.grid_types.specs.declared.cell_box.CellBox.{CellBox}
 use Rattle.grid_model.specs.Lists.{product}
-use Rattle.grid_model.specs.Cells.{cell_index}
+use Rattle.grid_model.specs.Cells.{cell_index, InCellBox}
 use Rattle.grid_model.specs.ScaleLaws.{IsCell}
-use Rattle.grid_model.proofs.Indices.{cell_index-cons}
-use Rattle.grid_cells.specs.Boxes.{InBox, IsNextInBox, IsLast}
-use Rattle.grid_cells.proofs.Products.{cell_index-below}
+use Rattle.grid_model.proofs.Indices.{cell_index-cons, cell_index-below, cell_index-grows}
+use Rattle.grid_cells.specs.CellBoxes.{IsNextInCellBox, IsLastInCellBox}
 
 -- a cell lies in a box of the directory
 pub record Lies (ns lo hi cell : List ℕ) : Type 0 where
@@ -18,18 +18,18 @@ pub record Lies (ns lo hi cell : List ℕ) : Type 0 where
   pub below : (b : ℕ) → b < length ns → slice_index cell b ≤ slice_index hi b
   pub under : (b : ℕ) → b < length ns → slice_index hi b < slice_index ns b
 
-pub lies : (ns lo hi cell : List ℕ) → length lo ≡ length ns → IsCell ns hi → InBox lo hi cell → Lies ns lo hi cell
-lies ns lo hi cell p h b = record {
+pub lies : {K : ℕ} (ns : List ℕ) (b : CellBox K) (cell : List ℕ) → length b.lo ≡ length ns → IsCell ns b.hi → InCellBox b cell → Lies ns b.lo b.hi cell
+lies ns b cell p h i = record {
   lows = p;
   highs = h.count;
-  count = b.count ∙ p;
-  above = λ a q. (b.within a (omega (arith, q, p, b.count))).0;
-  below = λ a q. (b.within a (omega (arith, q, p, b.count))).1;
+  count = i.count ∙ p;
+  above = λ a q. (i.within a (omega (arith, q, p, i.count))).0;
+  below = λ a q. (i.within a (omega (arith, q, p, i.count))).1;
   under = h.each;
 }
 
-in-box : (ns lo hi cell : List ℕ) → Lies ns lo hi cell → InBox lo hi cell
-in-box ns lo hi cell f = record { count = f.count ∙ sym f.lows; within = λ a p. (f.above a (omega (arith, p, f.count)), f.below a (omega (arith, p, f.count))) }
+in-box : {K : ℕ} (ns : List ℕ) (b : CellBox K) (cell : List ℕ) → Lies ns b.lo b.hi cell → InCellBox b cell
+in-box ns b cell f = record { count = f.count ∙ sym f.lows; within = λ a p. (f.above a (omega (arith, p, f.count)), f.below a (omega (arith, p, f.count))) }
 
 is-cell : (ns lo hi cell : List ℕ) → Lies ns lo hi cell → IsCell ns cell
 is-cell ns lo hi cell f = record { count = f.count; each = λ a p. omega (arith, f.below a p, f.under a p) }
@@ -61,19 +61,6 @@ cons n l h c ns lo hi cell p q r f = record {
 -- the lowest cell of a box lies in it
 lowest : (ns lo hi cell : List ℕ) → Lies ns lo hi cell → Lies ns lo hi lo
 lowest ns lo hi cell f = record { lows = f.lows; highs = f.highs; count = f.lows; above = λ b p. omega arith; below = λ b p. omega (arith, f.above b p, f.below b p); under = f.under }
-
--- a cell with no lower interval has no lower index
-pub cell_index-grows : (ns xs ys : List ℕ) → length xs ≡ length ns → length ys ≡ length ns → ((b : ℕ) → b < length ns → slice_index xs b ≤ slice_index ys b) → cell_index ns xs ≤ cell_index ns ys
-cell_index-grows [] xs ys p q h = omega arith
-cell_index-grows (n ∷ ns) [] ys p q h = absurd (omega (arith, p))
-cell_index-grows (n ∷ ns) (x ∷ xs) [] p q h = absurd (omega (arith, q))
-cell_index-grows (n ∷ ns) (x ∷ xs) (y ∷ ys) p q h = omega (
-  arith,
-  cell_index-cons n x ns xs (omega (arith, p)),
-  cell_index-cons n y ns ys (omega (arith, q)),
-  mul-le-mul_right (product ns) (h zero (omega arith)),
-  cell_index-grows ns xs ys (omega (arith, p)) (omega (arith, q)) (λ b r. h (suc b) (omega (arith, r))),
-)
 
 -- the cell with its interval of attribute a one up, and the lowest intervals behind it
 abbrev pub stepped : List ℕ → List ℕ → ℕ → List ℕ
@@ -150,21 +137,21 @@ nearest (n ∷ ns) (l ∷ lo) (h ∷ hi) (c ∷ cell) (e ∷ other) (suc a) f k 
     by here there next short few rest (inr (inr s)) = absurd (omega (arith, r, here, there, few, round-up e c (product ns) s))
 
 -- the cell that is one up in the last attribute that may grow follows
-pub follows : (ns lo hi cell next : List ℕ) (a : ℕ) → length lo ≡ length ns → IsCell ns hi → InBox lo hi cell → a < length ns → slice_index cell a < slice_index hi a → ((b : ℕ) → a < b → b < length ns → slice_index cell b ≡ slice_index hi b)
-    → next ≡ take a cell ++ (slice_index cell a + 1) ∷ drop (a + 1) lo → IsNextInBox ns lo hi cell next
-follows ns lo hi cell next a p h i q r t e =
-    let f = lies ns lo hi cell p h i in
+pub follows : {K : ℕ} (ns : List ℕ) (b : CellBox K) (cell next : List ℕ) (a : ℕ) → length b.lo ≡ length ns → IsCell ns b.hi → InCellBox b cell → a < length ns → slice_index cell a < slice_index b.hi a
+    → ((i : ℕ) → a < i → i < length ns → slice_index cell i ≡ slice_index b.hi i) → next ≡ take a cell ++ (slice_index cell a + 1) ∷ drop (a + 1) b.lo → IsNextInCellBox ns b cell next
+follows ns b cell next a p h i q r t e =
+    let f = lies ns b cell p h i in
     let one : suc a ≡ a + 1 = omega arith in
-    let same : stepped cell lo a ≡ next = ap (λ n. take a cell ++ (slice_index cell a + 1) ∷ drop n lo) one ∙ sym e in
-    subst (IsNextInBox ns lo hi cell) same (record {
-      inside = in-box ns lo hi (stepped cell lo a) (stays ns lo hi cell a f q r);
-      above = rises ns lo hi cell a f q r;
-      least = λ other j s. nearest ns lo hi cell other a f (lies ns lo hi other p h j) q r t s;
+    let same : stepped cell b.lo a ≡ next = ap (λ n. take a cell ++ (slice_index cell a + 1) ∷ drop n b.lo) one ∙ sym e in
+    subst (IsNextInCellBox ns b cell) same (record {
+      inside = in-box ns b (stepped cell b.lo a) (stays ns b.lo b.hi cell a f q r);
+      above = rises ns b.lo b.hi cell a f q r;
+      least = λ other j s. nearest ns b.lo b.hi cell other a f (lies ns b other p h j) q r t s;
     })
 
 -- a cell with no interval that may grow is the last
-pub is-last : (ns lo hi cell : List ℕ) → length lo ≡ length ns → IsCell ns hi → InBox lo hi cell → ((b : ℕ) → b < length ns → slice_index cell b ≡ slice_index hi b) → IsLast ns lo hi cell
-is-last ns lo hi cell p h i t other j =
-    let f = lies ns lo hi cell p h i in
-    let k = lies ns lo hi other p h j in
-    cell_index-grows ns other cell k.count f.count (λ b q. omega (arith, k.below b q, t b q))
+pub is-last : {K : ℕ} (ns : List ℕ) (b : CellBox K) (cell : List ℕ) → length b.lo ≡ length ns → IsCell ns b.hi → InCellBox b cell → ((i : ℕ) → i < length ns → slice_index cell i ≡ slice_index b.hi i) → IsLastInCellBox ns b cell
+is-last ns b cell p h i t other j =
+    let f = lies ns b cell p h i in
+    let k = lies ns b other p h j in
+    cell_index-grows ns other cell k.count f.count (λ a q. omega (arith, k.below a q, t a q))

@@ -1,3 +1,4 @@
 pub mod Dims
-pub mod Boxes
+pub mod CellBoxes
+pub mod Walks
 pub mod Laws

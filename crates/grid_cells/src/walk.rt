@@ -1,10 +1,11 @@
 //! The walk through a box of cells.
-ghost use Rattle.std.specs.Prelude.{◌≡◌, ◌<◌, ◌≤◌, ◌+◌, ◌++◌, ◌∷◌, ◌^◌, ℕ, slice_index, take, drop, IfSome, IfNone};
+ghost use Rattle.std.specs.Prelude.{◌≡◌, ◌<◌, ◌≤◌, ◌+◌, ◌++◌, ◌∷◌, ℕ, slice_index, take, drop, IfSome, IfNone};
+ghost use Rattle.grid_cells.specs.Walks.{IsLastBelow};
 
-/// The last attribute whose interval may still grow.
-pub fn turning<const K: usize>(hi: &[u32; K], cell: &[u32; K]) -> Option<usize>
+/// The last attribute in which the cell lies below the other one.
+pub fn last_below<const K: usize>(hi: &[u32; K], cell: &[u32; K]) -> Option<usize>
     requires { (b : ℕ) → b < K → slice_index cell.now b ≤ slice_index hi.now b }
-    ensures found { IfSome result (λ a. (a < K) × (slice_index cell.now a < slice_index hi.now a) × (slice_index hi.now a < 2 ^ 32) × ((b : ℕ) → a < b → b < K → slice_index cell.now b ≡ slice_index hi.now b)) }
+    ensures found { IfSome result (IsLastBelow K hi.now cell.now) }
     ensures none { IfNone result ((b : ℕ) → b < K → slice_index cell.now b ≡ slice_index hi.now b) }
 {
     for a in (0..K).rev() {

@@ -1,7 +1,7 @@
 -- Cells have indices: each index has one cell.
-use Rattle.std.proofs.Common.{◌≡◌, ◌<◌, ◌+◌, ◌*◌, ◌/◌, ◌%◌, ℕ, zero, suc, List, [], ◌∷◌, ◌++◌, length, slice_index, map, flat_map, fold, zip, slice_get, Some, option_map, refl, sym, ap, ◌∙◌, subst, arith}
+use Rattle.std.proofs.Common.{◌≡◌, ◌<◌, ◌≤◌, ◌+◌, ◌*◌, ◌/◌, ◌%◌, ℕ, zero, suc, List, [], ◌∷◌, ◌++◌, length, slice_index, map, flat_map, fold, zip, slice_get, Some, option_map, refl, sym, ap, ◌∙◌, subst, arith}
 use Rattle.std.specs.List.{range_with_len}
-use Rattle.std.proofs.Math.Nat.{add-mul, mul_assoc, div-lt_iff_lt-mul}
+use Rattle.std.proofs.Math.Nat.{add-mul, mul_assoc, mul-le-mul_right, div-lt_iff_lt-mul}
 use Rattle.std.proofs.lemmas.Nat.{div-add-mod', mod_below}
 use Rattle.std.proofs.lemmas.Option.{none-some, same_Some, slice_get-map, slice_get_within}
 use Rattle.std.proofs.lemmas.List.{length-map, length-append}
@@ -120,3 +120,24 @@ index-there (n ∷ ns) i cell e =
       cell-on n c ns tail.0 low further.0,
       cell_index-cons n c ns tail.0 further.0.count ∙ ap (λ x. c * P + x) further.1 ∙ whole,
     )
+
+-- a cell's index is below the number of cells
+pub cell_index-below : (ns cell : List ℕ) → IsCell ns cell → cell_index ns cell < product ns
+cell_index-below ns cell h = omega (arith, slice_get_within (choices (map below ns)) (cell_index ns cell) cell (cell-there ns cell h), cells-counted ns)
+
+-- no two cells have one index
+pub one-cell : (ns c d : List ℕ) → IsCell ns c → IsCell ns d → cell_index ns c ≡ cell_index ns d → c ≡ d
+one-cell ns c d h g e = same_Some c d (sym (cell-there ns c h) ∙ ap (slice_get (choices (map below ns))) e ∙ cell-there ns d g)
+
+-- a cell with no lower interval has no lower index
+pub cell_index-grows : (ns xs ys : List ℕ) → length xs ≡ length ns → length ys ≡ length ns → ((b : ℕ) → b < length ns → slice_index xs b ≤ slice_index ys b) → cell_index ns xs ≤ cell_index ns ys
+cell_index-grows [] xs ys p q h = omega arith
+cell_index-grows (n ∷ ns) [] ys p q h = absurd (omega (arith, p))
+cell_index-grows (n ∷ ns) (x ∷ xs) [] p q h = absurd (omega (arith, q))
+cell_index-grows (n ∷ ns) (x ∷ xs) (y ∷ ys) p q h = omega (
+  arith,
+  cell_index-cons n x ns xs (omega (arith, p)),
+  cell_index-cons n y ns ys (omega (arith, q)),
+  mul-le-mul_right (product ns) (h zero (omega arith)),
+  cell_index-grows ns xs ys (omega (arith, p)) (omega (arith, q)) (λ b r. h (suc b) (omega (arith, r))),
+)

@@ -10,8 +10,13 @@ pub mod Members
 pub mod Choosing
 pub mod CutLaws
 pub mod ScaleLaws
+pub mod Filled
+pub mod Boundaries
+pub mod Bounds
 pub mod Indices
 pub mod CellLaws
+pub mod LowestKeys
+pub mod OneCell
 pub mod Refining
 pub mod Numbered
 pub mod Boxes

@@ -1,9 +1,11 @@
 -- A cell is a list of one interval for each attribute. Each cell has an index in the directory, and a thousand cells make a part.
-use Rattle.std.specs.Prelude.{ℕ, ◌+◌, ◌-◌, ◌*◌, ◌/◌, List, map, nat_lt, ◌==◌, if◌then◌else◌, slice_index, slice_set, filter, fold, zip}
+use Rattle.std.specs.Prelude.{◌≡◌, ℕ, ◌+◌, ◌-◌, ◌*◌, ◌/◌, List, length, map, nat_lt, ◌==◌, if◌then◌else◌, slice_index, slice_set, filter, fold, zip}
 use Rattle.std.specs.List.{list_any}
 use Rattle.grid_types.specs.Shapes.{word_pages}
 use Rattle.grid_types.specs.declared.sizes.TheConstants.{WORDS_ON_PAGE}
+use Rattle.grid_types.specs.declared.cell_box.CellBox.{CellBox}
 use Rattle.grid_types.specs.declared.region.Region.{Region}
+use Rattle.grid_types.specs.Regions.{Within}
 use Rattle.grid_model.specs.Lists.{below, from_to, zip_with, product, choices}
 use Rattle.grid_model.specs.Scales.{interval, intervals, low}
 
@@ -46,6 +48,11 @@ interval_before i c = if nat_lt i c then c - 1 else c
 -- the cell that was this one before interval i of attribute a was split
 abbrev pub image_of : List ℕ → ℕ → ℕ → List ℕ
 image_of cell a i = slice_set cell a (interval_before i (slice_index cell a))
+
+-- a cell lies in a box of cells where it has an interval for each attribute, none below the low corner's and none above the high corner's
+pub record InCellBox {K : ℕ} (b : CellBox K) (cell : List ℕ) : Type 0 where
+  pub count : length cell ≡ length b.lo
+  pub within : Within b.lo b.hi cell
 
 -- the cells of a region, in the order of their indices
 abbrev pub cells_of : {K : ℕ} → List (List ℕ) → Region K → List (List ℕ)

@@ -1,9 +1,9 @@
 -- What the definitions of scales and cells promise.
-use Rattle.std.specs.Prelude.{◌≡◌, ◌<◌, ◌≤◌, ◌+◌, ◌↔◌, ◌||◌, ◌==◌, ℕ, List, false, length, slice_get, slice_set, slice_index, Some, Contains, IsTrue}
+use Rattle.std.specs.Prelude.{◌≡◌, ◌<◌, ◌≤◌, ◌+◌, ◌↔◌, ◌||◌, ◌==◌, ℕ, List, false, length, slice_get, slice_index, Some, Contains, IsTrue}
 use Rattle.grid_types.specs.declared.region.Region.{Region}
 use Rattle.grid_types.specs.Regions.{contains}
 use Rattle.grid_model.specs.Lists.{is_among}
-use Rattle.grid_model.specs.Scales.{scale_of, top, is_scale, interval, low, high, is_drawn, refined}
+use Rattle.grid_model.specs.Scales.{scale_of, top, is_scale, interval, low, high, is_drawn, refined, refined_at}
 use Rattle.grid_model.specs.Cells.{dims, cells, cell_of, cell_index, all_cells, cells_of, image_of}
 
 -- a scale parts the numbers into intervals: an interval's bounds contain a number exactly where it is the number's interval; a fresh boundary makes a scale again, which cuts one interval in two and keeps all ends
@@ -30,4 +30,4 @@ pub record HaveIndices (K : ℕ) : Type 0 where
   pub key : (scales : List (List ℕ)) (k : List ℕ) → length k ≡ length scales → IsCell (dims scales) (cell_of scales k)
   pub region : (scales : List (List ℕ)) (r : Region K) (k : List ℕ) → length k ≡ length scales → IsTrue (contains r k) → Contains (cells_of scales r) (cell_of scales k)
   pub image : (scales : List (List ℕ)) (k : List ℕ) (a v : ℕ) → length k ≡ length scales → a < length scales → IsTrue (is_scale (scale_of scales a)) → is_among (scale_of scales a) v ≡ false
-      → image_of (cell_of (slice_set scales a (refined (scale_of scales a) v)) k) a (interval (scale_of scales a) v) ≡ cell_of scales k
+      → image_of (cell_of (refined_at scales a v) k) a (interval (scale_of scales a) v) ≡ cell_of scales k

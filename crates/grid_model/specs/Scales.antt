@@ -1,5 +1,5 @@
 -- A linear scale is the ascending list of its boundaries, which part the numbers of an attribute into intervals.
-use Rattle.std.specs.Prelude.{ℕ, pred, ◌+◌, List, [], ◌∷◌, ◌++◌, Bool, true, ◌&&◌, map, length, nat_lt, nat_le, slice_index, slice_index_or, filter}
+use Rattle.std.specs.Prelude.{ℕ, pred, ◌+◌, List, [], ◌∷◌, ◌++◌, Bool, true, ◌&&◌, map, length, nat_lt, nat_le, slice_index, slice_index_or, slice_set, filter}
 use Rattle.grid_model.specs.Lists.{is_among}
 
 -- the greatest number of an attribute
@@ -50,3 +50,7 @@ is_drawn scale lo hi = is_among (lows scale) lo && is_among (highs scale) hi
 -- the scale with one more boundary
 abbrev pub refined : List ℕ → ℕ → List ℕ
 refined scale v = filter (λ b. nat_lt b v) scale ++ v ∷ filter (λ b. nat_lt v b) scale
+
+-- the scales with one more boundary in the scale of an attribute
+abbrev pub refined_at : List (List ℕ) → ℕ → ℕ → List (List ℕ)
+refined_at scales a v = slice_set scales a (refined (scale_of scales a) v)

@@ -3,6 +3,7 @@
 #![tactic(auto)]
 
 mod answer;
+mod cell_box;
 mod data;
 mod geometry;
 mod half;
@@ -20,6 +21,7 @@ mod update;
 mod words;
 
 pub use answer::Answer;
+pub use cell_box::CellBox;
 pub use data::Data;
 pub use geometry::Geometry;
 pub use half::Half;

@@ -1,40 +1,13 @@
--- Lists that are filled from the front, and lists of scales at their places.
-use Rattle.std.proofs.Common.{◌≡◌, ◌≢◌, ◌<◌, ◌≤◌, ◌+◌, ◌⊎◌, inl, inr, ℕ, zero, suc, List, [], ◌∷◌, drop, length, get_or, slice_index, slice_set, Result, refl, sym, ap, ◌∙◌, subst, arith}
+-- Lists of scales, scale by scale.
+use Rattle.std.proofs.Common.{◌≡◌, ◌<◌, ℕ, zero, suc, List, [], ◌∷◌, drop, length, get_or, slice_index, slice_set, Result, refl, sym, ap, ◌∙◌, arith}
 use Rattle.std.specs.Prelude.{OnOk}
-use Rattle.std.proofs.lemmas.Bool.{cases_lt}
 use Rattle.std.proofs.lemmas.Result.{on_ok_weaker}
-use Rattle.std.proofs.lemmas.List.{get_or-set_same, get_or-set_other, get_or-map, map-set, set-get_or}
+use Rattle.std.proofs.lemmas.List.{get_or-map, map-set, set-get_or}
 use Rattle.grid_model.specs.Scales.{scale_of, intervals, interval, refined}
 use Rattle.grid_model.specs.Cells.{dims, cell_of}
 use Rattle.linear_scales.specs.Limited.{LimitedScale, scales_of, limits_of}
 
--- what holds at each place below a holds at each up to it, where it holds of what is written there
-pub step : (P : ℕ → ℕ → Type 0) (xs : List ℕ) (a v : ℕ) → a < length xs → ((k : ℕ) → k < a → P k (slice_index xs k)) → P a v → (k : ℕ) → k < a + 1 → P k (slice_index (slice_set xs a v) k)
-step P xs a v p below here k q = by (cases_lt k a)
-  where
-    by : (k < a) ⊎ (a ≤ k) → P k (slice_index (slice_set xs a v) k)
-    by (inl r) =
-        let other : k ≢ a = omega (arith, r) in
-        subst (P k) (sym (get_or-set_other xs a k v 0 other)) (below k r)
-    by (inr r) =
-        let same : a ≡ k = omega (arith, q, r) in
-        subst (λ (j : ℕ). P j (slice_index (slice_set xs a v) j)) same (subst (P a) (sym (get_or-set_same xs a v 0 p)) here)
-
--- the same of two lists that are filled together
-pub step-both : (P : ℕ → ℕ → ℕ → Type 0) (xs ys : List ℕ) (a v w : ℕ) → a < length xs → a < length ys → ((k : ℕ) → k < a → P k (slice_index xs k) (slice_index ys k)) → P a v w
-    → (k : ℕ) → k < a + 1 → P k (slice_index (slice_set xs a v) k) (slice_index (slice_set ys a w) k)
-step-both P xs ys a v w p q below here k r = by (cases_lt k a)
-  where
-    by : (k < a) ⊎ (a ≤ k) → P k (slice_index (slice_set xs a v) k) (slice_index (slice_set ys a w) k)
-    by (inl s) =
-        let other : k ≢ a = omega (arith, s) in
-        subst (λ (x : ℕ). P k x (slice_index (slice_set ys a w) k)) (sym (get_or-set_other xs a k v 0 other)) (subst (P k (slice_index xs k)) (sym (get_or-set_other ys a k w 0 other)) (below k s))
-    by (inr s) =
-        let same : a ≡ k = omega (arith, r, s) in
-        subst (λ (j : ℕ). P j (slice_index (slice_set xs a v) j) (slice_index (slice_set ys a w) j)) same
-        (subst (λ (x : ℕ). P a x (slice_index (slice_set ys a w) a)) (sym (get_or-set_same xs a v 0 p)) (subst (P a v) (sym (get_or-set_same ys a w 0 q)) here))
-
--- the scale at a place, without its limit
+-- the scale at an index, without its limit
 pub scale-at : (ss : List LimitedScale) (a : ℕ) (d : LimitedScale) → a < length ss → scale_of (scales_of ss) a ≡ (get_or ss a d).boundaries
 scale-at ss a d p = get_or-map (λ s. s.boundaries) ss a d [] p
 
@@ -51,7 +24,7 @@ cell-filled (s ∷ ss) (k ∷ ks) (c ∷ cell) p q h =
     let rest : cell ≡ cell_of (scales_of ss) ks = cell-filled ss ks cell (omega (arith, p)) (omega (arith, q)) (λ j d r. h (suc j) d (omega (arith, r))) in
     λ i. first i ∷ rest i
 
--- scales of the same limits have the same limit at each place
+-- scales of the same limits have the same limit at each index
 pub same-limits : (xs ys : List LimitedScale) (k : ℕ) (d : LimitedScale) → limits_of xs ≡ limits_of ys → (get_or xs k d).limit ≡ (get_or ys k d).limit
 same-limits [] [] k d e = refl
 same-limits [] (y ∷ ys) k d e = absurd (omega (arith, ap length e))

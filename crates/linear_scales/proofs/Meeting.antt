@@ -1,101 +1,14 @@
 -- Which intervals have a number that a side asks for.
-use Rattle.std.proofs.Common.{◌≡◌, ◌<◌, ◌≤◌, ◌+◌, ◌^◌, ◌↔◌, ◌⊎◌, inl, inr, ℕ, zero, suc, pred, max, true, List, [], ◌∷◌, length, slice_index, nat_le, refl, ap, ◌∙◌, arith, le-leb, leb-true}
-use Rattle.std.proofs.lemmas.Bool.{cases_lt, eq-eqb, eqb-true}
+use Rattle.std.proofs.Common.{◌≡◌, ◌<◌, ◌≤◌, ◌^◌, ◌↔◌, ℕ, max, true, List, length, nat_le, refl, ap, ◌∙◌, arith, le-leb, leb-true}
+use Rattle.std.proofs.lemmas.Bool.{eq-eqb, eqb-true}
 use Rattle.grid_types.specs.declared.query.Side.{Side}
 use Rattle.grid_types.specs.declared.query.Side.TheVariants.{Any, Exactly, Between}
 use Rattle.grid_types.specs.Queries.{admits, is_straight}
 use Rattle.grid_types.proofs.Numbers.{both, first, second}
-use Rattle.grid_model.specs.Scales.{ascends_from, is_scale, interval, low, high, top}
-use Rattle.grid_model.proofs.ScaleLaws.{goes-on, tops, each-from, counted, uncounted, in-first, interval-grows, has-bounds}
+use Rattle.grid_model.specs.Scales.{is_scale, interval, low, high, top}
+use Rattle.grid_model.proofs.ScaleLaws.{interval-grows, has-bounds}
+use Rattle.grid_model.proofs.Bounds.{high-top, low-high, low-reached, high-kept}
 use Rattle.linear_scales.specs.Sides.{begin_of, end_of, Meets}
-use Rattle.linear_scales.proofs.Searching.{ascends}
-
--- each boundary is a number of the attribute
-each-top : (l : ℕ) (bs : List ℕ) (i : ℕ) → ascends_from l bs ≡ true → slice_index bs i ≤ top
-each-top l [] i e = omega arith
-each-top l (b ∷ bs) zero e = tops l b bs e
-each-top l (b ∷ bs) (suc i) e = each-top (b + 1) bs i (goes-on l b bs e)
-
-high-at : (bs : List ℕ) (i : ℕ) → i < length bs → high bs i ≡ pred (slice_index bs i)
-high-at [] i p = absurd (omega (arith, p))
-high-at (b ∷ bs) zero p = refl
-high-at (b ∷ bs) (suc i) p = high-at bs i (omega (arith, p))
-
-high-last : (bs : List ℕ) (i : ℕ) → i ≡ length bs → high bs i ≡ top
-high-last [] zero e = refl
-high-last [] (suc i) e = absurd (omega (arith, e))
-high-last (b ∷ bs) zero e = absurd (omega (arith, e))
-high-last (b ∷ bs) (suc i) e = high-last bs i (omega (arith, e))
-
-pred-less : (b : ℕ) → pred b ≤ b
-pred-less zero = omega arith
-pred-less (suc b) = omega arith
-
--- no interval has a number above the top
-pub high-top : (l : ℕ) (bs : List ℕ) (i : ℕ) → ascends_from l bs ≡ true → high bs i ≤ top
-high-top l [] zero e = omega arith
-high-top l [] (suc i) e = omega arith
-high-top l (b ∷ bs) zero e = omega (arith, pred-less b, tops l b bs e)
-high-top l (b ∷ bs) (suc i) e = high-top (b + 1) bs i (goes-on l b bs e)
-
--- a number that reaches a boundary is in no lower interval
-reaches : (l : ℕ) (bs : List ℕ) (v i : ℕ) → ascends_from l bs ≡ true → i < length bs → slice_index bs i ≤ v → i < interval bs v
-reaches l [] v i e p q = absurd (omega (arith, p))
-reaches l (b ∷ bs) v zero e p q = omega (arith, counted b v bs q)
-reaches l (b ∷ bs) v (suc i) e p q =
-    let r : b ≤ v = omega (arith, q, ascends l (b ∷ bs) 0 (suc i) e (omega arith) p) in
-    omega (arith, counted b v bs r, reaches (b + 1) bs v i (goes-on l b bs e) (omega (arith, p)) q)
-
--- and one below a boundary is in no higher one
-stays : (l : ℕ) (bs : List ℕ) (v i : ℕ) → ascends_from l bs ≡ true → i < length bs → v < slice_index bs i → interval bs v ≤ i
-stays l [] v i e p q = absurd (omega (arith, p))
-stays l (b ∷ bs) v zero e p q = omega (arith, uncounted b v bs q, in-first (b + 1) v bs (goes-on l b bs e) (omega (arith, q)))
-stays l (b ∷ bs) v (suc i) e p q = by (cases_lt v b) (λ r. stays (b + 1) bs v i (goes-on l b bs e) (omega (arith, p)) q)
-  where
-    by : (v < b) ⊎ (b ≤ v) → (b ≤ v → interval bs v ≤ i) → interval (b ∷ bs) v ≤ suc i
-    by (inl r) rest = omega (arith, uncounted b v bs r, in-first (b + 1) v bs (goes-on l b bs e) (omega (arith, r)))
-    by (inr r) rest = omega (arith, counted b v bs r, rest r)
-
--- a number in an interval or a higher one is at least the interval's lowest
-low-reached : (bs : List ℕ) (v i : ℕ) → is_scale bs ≡ true → i ≤ length bs → i ≤ interval bs v → low bs i ≤ v
-low-reached bs v zero e p q = omega arith
-low-reached bs v (suc i) e p q = by (cases_lt v (slice_index bs i))
-  where
-    by : (v < slice_index bs i) ⊎ (slice_index bs i ≤ v) → slice_index bs i ≤ v
-    by (inl r) = absurd (omega (arith, q, stays 1 bs v i e (omega (arith, p)) r))
-    by (inr r) = r
-
-at-most-pred : (v b : ℕ) → v < b → v ≤ pred b
-at-most-pred v zero p = absurd (omega (arith, p))
-at-most-pred v (suc b) p = omega (arith, p)
-
--- a number in an interval or a lower one is at most the interval's highest
-high-kept : (bs : List ℕ) (v i : ℕ) → is_scale bs ≡ true → v ≤ top → i ≤ length bs → interval bs v ≤ i → v ≤ high bs i
-high-kept bs v i e t p q = by (cases_lt i (length bs))
-  where
-    inside : i < length bs → (v < slice_index bs i) ⊎ (slice_index bs i ≤ v) → v ≤ high bs i
-    inside r (inl s) = omega (arith, high-at bs i r, at-most-pred v (slice_index bs i) s)
-    inside r (inr s) = absurd (omega (arith, q, reaches 1 bs v i e r s))
-
-    by : (i < length bs) ⊎ (length bs ≤ i) → v ≤ high bs i
-    by (inl r) = inside r (cases_lt v (slice_index bs i))
-    by (inr r) = omega (arith, t, high-last bs i (omega (arith, p, r)))
-
-low-below : (bs : List ℕ) (i : ℕ) → is_scale bs ≡ true → i < length bs → low bs i < slice_index bs i
-low-below bs zero e p = omega (arith, each-from 1 bs 0 e p)
-low-below bs (suc i) e p = ascends 1 bs i (suc i) e (omega arith) p
-
-low-top : (bs : List ℕ) (i : ℕ) → is_scale bs ≡ true → low bs i ≤ top
-low-top bs zero e = omega arith
-low-top bs (suc i) e = each-top 1 bs i e
-
--- no interval is empty
-pub low-high : (bs : List ℕ) (i : ℕ) → is_scale bs ≡ true → i ≤ length bs → low bs i ≤ high bs i
-low-high bs i e p = by (cases_lt i (length bs))
-  where
-    by : (i < length bs) ⊎ (length bs ≤ i) → low bs i ≤ high bs i
-    by (inl r) = omega (arith, high-at bs i r, at-most-pred (low bs i) (slice_index bs i) (low-below bs i e r))
-    by (inr r) = omega (arith, low-top bs i e, high-last bs i (omega (arith, p, r)))
 
 asks : (side : Side) (n : ℕ) → begin_of side ≤ n → n ≤ end_of side → admits side n ≡ true
 asks Any n p q = refl
@@ -114,7 +27,7 @@ side-meets bs side e o t i p = (there, back)
   where
     there : Meets bs side i → (interval bs (begin_of side) ≤ i) × (i ≤ interval bs (end_of side))
     there m =
-        let within : m.number ≤ top = omega (arith, m.below, high-top 1 bs i e) in
+        let within : m.number ≤ top = omega (arith, m.below, high-top bs i e) in
         let here : interval bs m.number ≡ i = (has-bounds bs m.number i e within p).0 (m.above, m.below) in
         let asked = is-asked side m.number within m.asked in
         (omega (arith, here, interval-grows bs (begin_of side) m.number asked.0), omega (arith, here, interval-grows bs m.number (end_of side) asked.1))
@@ -122,8 +35,8 @@ side-meets bs side e o t i p = (there, back)
     back : (interval bs (begin_of side) ≤ i) × (i ≤ interval bs (end_of side)) → Meets bs side i
     back h =
         let n : ℕ = max (low bs i) (begin_of side) in
-        let reached : low bs i ≤ end_of side = low-reached bs (end_of side) i e p h.1 in
-        let kept : begin_of side ≤ high bs i = high-kept bs (begin_of side) i e (omega (arith, o, t)) p h.0 in
+        let reached : low bs i ≤ end_of side = low-reached bs i e p (end_of side) h.1 in
+        let kept : begin_of side ≤ high bs i = high-kept bs i e p (begin_of side) (omega (arith, o, t)) h.0 in
         record {
           number = n;
           above = omega arith;

@@ -1,20 +1,22 @@
 -- Which cells a query meets.
 use Rattle.std.proofs.Common.{◌≡◌, ◌<◌, ◌≤◌, ◌^◌, ◌↔◌, ℕ, zero, suc, true, true≢false, List, [], ◌∷◌, length, get_or, slice_index, refl, sym, ap, ◌∙◌, subst, arith}
-use Rattle.std.proofs.lemmas.List.{length-map}
+use Rattle.std.proofs.lemmas.List.{length-map, get_or-map}
 use lib.Pointwise.{pointwise}
+use Rattle.grid_types.specs.declared.cell_box.CellBox.{CellBox}
 use Rattle.grid_types.specs.declared.query.Side.{Side}
 use Rattle.grid_types.specs.declared.query.Side.TheVariants.{Any}
 use Rattle.grid_types.specs.Queries.{admits, matches}
 use Rattle.grid_types.specs.Regions.{Within}
 use Rattle.grid_types.proofs.Numbers.{both, first, second}
 use Rattle.grid_model.specs.Scales.{is_scale, intervals, interval, top}
-use Rattle.grid_model.specs.Cells.{dims, cell_of}
+use Rattle.grid_model.specs.Cells.{dims, cell_of, InCellBox}
 use Rattle.grid_model.specs.ScaleLaws.{IsCell}
 use Rattle.grid_model.proofs.ScaleLaws.{has-bounds, few-intervals}
+use Rattle.grid_model.proofs.Bounds.{high-top}
 use Rattle.linear_scales.specs.Limited.{LimitedScale, scales_of}
 use Rattle.linear_scales.specs.Sides.{Meets}
 use Rattle.linear_scales.specs.Queries.{MeetsQuery}
-use Rattle.linear_scales.proofs.Meeting.{high-top}
+use Rattle.linear_scales.proofs.Filling.{scale-at}
 use Rattle.linear_scales.proofs.Ranges.{AreRanges}
 
 -- an interval of a scale meets a side
@@ -42,7 +44,7 @@ key-of (s ∷ ss) (e ∷ sides) [] p q h = absurd (omega (arith, q))
 key-of (s ∷ ss) (e ∷ sides) (c ∷ cell) p q h =
     let here = h zero (omega arith) s e in
     let n : ℕ = here.meets.number in
-    let within : n ≤ top = omega (arith, here.meets.below, high-top 1 s.boundaries c here.scale) in
+    let within : n ≤ top = omega (arith, here.meets.below, high-top s.boundaries c here.scale) in
     let there : interval s.boundaries n ≡ c = (has-bounds s.boundaries n c here.scale within here.inside).0 (here.meets.above, here.meets.below) in
     let rest = key-of ss sides cell (omega (arith, p)) (omega (arith, q)) (λ k r. h (suc k) (omega (arith, r))) in
     record {
@@ -57,7 +59,7 @@ key-of (s ∷ ss) (e ∷ sides) (c ∷ cell) p q h =
     in-range n ns p f zero = p
     in-range n ns p f (suc a) = f a
 
--- a matching key's interval meets the side at its place
+-- a matching key's interval meets the side of its attribute
 met-at : (ss : List LimitedScale) (sides : List Side) (key : List ℕ) (k : ℕ) (d : LimitedScale) (e : Side) → length key ≡ length ss → pointwise admits sides key ≡ true → ((a : ℕ) → slice_index key a < 2 ^ 64) → k < length ss
     → is_scale (get_or ss k d).boundaries ≡ true → IsMet (get_or ss k d) (get_or sides k e) (slice_index (cell_of (scales_of ss) key) k)
 met-at [] sides key k d e p m f q l = absurd (omega (arith, q))
@@ -77,17 +79,15 @@ met-at (s ∷ ss) (side ∷ sides) (n ∷ key) (suc k) d e p m f q l =
 -- a cell's interval is one of its scale
 inside-at : (ss : List LimitedScale) (cell : List ℕ) (k : ℕ) (d : LimitedScale) → ((a : ℕ) → a < length (dims (scales_of ss)) → slice_index cell a < slice_index (dims (scales_of ss)) a) → k < length ss
     → slice_index cell k ≤ length (get_or ss k d).boundaries
-inside-at [] cell k d h p = absurd (omega (arith, p))
-inside-at (s ∷ ss) [] zero d h p = omega arith
-inside-at (s ∷ ss) [] (suc k) d h p = omega arith
-inside-at (s ∷ ss) (c ∷ cell) zero d h p = omega (arith, h zero (omega arith))
-inside-at (s ∷ ss) (c ∷ cell) (suc k) d h p = inside-at ss cell k d (λ a q. h (suc a) (omega (arith, q))) (omega (arith, p))
+inside-at ss cell k d h p =
+    let q : k < length (scales_of ss) = omega (arith, p, length-map ss (λ s. s.boundaries)) in
+    omega (arith, h k (omega (arith, q, length-map (scales_of ss) intervals)), get_or-map intervals (scales_of ss) k [] 0 q, ap length (scale-at ss k d p))
 
--- the cells between the ends of the ranges are those that meet the query
-pub query-meets : (K : ℕ) (ss : List LimitedScale) (sides : List Side) (low high : List ℕ) → length ss ≡ K → length sides ≡ K → ((k : ℕ) → k < K → AreRanges ss sides k (slice_index low k) (slice_index high k))
-    → (cell : List ℕ) → IsCell (dims (scales_of ss)) cell → MeetsQuery K (scales_of ss) sides cell ↔ Within low high cell
+-- the cells of the box of the ranges are those that meet the query
+pub query-meets : {K : ℕ} (ss : List LimitedScale) (sides : List Side) (b : CellBox K) → length ss ≡ K → length sides ≡ K → length b.lo ≡ K → ((k : ℕ) → k < K → AreRanges ss sides k (slice_index b.lo k) (slice_index b.hi k))
+    → (cell : List ℕ) → IsCell (dims (scales_of ss)) cell → MeetsQuery K (scales_of ss) sides cell ↔ InCellBox b cell
 unfolding matches
-query-meets K ss sides low high p q h cell c = (there, back)
+query-meets {K} ss sides b p q n h cell c = (λ m. record { count = long ∙ p ∙ sym n; within = there m }, λ i. back i.within)
   where
     none : LimitedScale
     none = record { boundaries = []; limit = 0 }
@@ -95,19 +95,19 @@ query-meets K ss sides low high p q h cell c = (there, back)
     long : length cell ≡ length ss
     long = c.count ∙ length-map (scales_of ss) intervals ∙ length-map ss (λ s. s.boundaries)
 
-    there : MeetsQuery K (scales_of ss) sides cell → Within low high cell
+    there : MeetsQuery K (scales_of ss) sides cell → Within b.lo b.hi cell
     there m a r =
         let range = h a (omega (arith, r, long, p)) none Any in
         let met = met-at ss sides m.key a none Any (m.is_key.count ∙ sym p) m.asked m.is_key.in_range (omega (arith, r, long)) range.lawful.scale in
-        subst (λ (x : ℕ). (slice_index low a ≤ x) × (x ≤ slice_index high a)) (ap (λ xs. slice_index xs a) m.there) ((range.meets (slice_index (cell_of (scales_of ss) m.key) a) met.inside).0 met.meets)
+        subst (λ (x : ℕ). (slice_index b.lo a ≤ x) × (x ≤ slice_index b.hi a)) (ap (λ xs. slice_index xs a) m.there) ((range.meets (slice_index (cell_of (scales_of ss) m.key) a) met.inside).0 met.meets)
 
-    met : Within low high cell → (k : ℕ) → k < length ss → (d : LimitedScale) (e : Side) → IsMet (get_or ss k d) (get_or sides k e) (slice_index cell k)
+    met : Within b.lo b.hi cell → (k : ℕ) → k < length ss → (d : LimitedScale) (e : Side) → IsMet (get_or ss k d) (get_or sides k e) (slice_index cell k)
     met w k r d e =
         let range = h k (omega (arith, r, p)) d e in
         let inside = inside-at ss cell k d c.each r in
         record { scale = range.lawful.scale; inside = inside; meets = (range.meets (slice_index cell k) inside).1 (w k (omega (arith, r, long))) }
 
-    back : Within low high cell → MeetsQuery K (scales_of ss) sides cell
+    back : Within b.lo b.hi cell → MeetsQuery K (scales_of ss) sides cell
     back w =
         let found = key-of ss sides cell (q ∙ sym p) long (met w) in
         record { key = found.key; is_key = record { count = found.count ∙ p; in_range = found.in_range }; there = found.there; asked = found.asked }

@@ -16,7 +16,7 @@ pub record AreRange (s : LimitedScale) (side : Side) (low high : ℕ) : Type 0 w
   pub highest : high ≡ interval s.boundaries (end_of side)
   pub meets : (i : ℕ) → i ≤ length s.boundaries → Meets s.boundaries side i ↔ ((low ≤ i) × (i ≤ high))
 
--- they are for each place below a number
+-- they are for the scale and the side of an index
 abbrev pub AreRanges : List LimitedScale → List Side → ℕ → ℕ → ℕ → Type 0
 AreRanges ss sides k low high = (d : LimitedScale) (e : Side) → AreRange (get_or ss k d) (get_or sides k e) low high
 
@@ -28,7 +28,7 @@ ends-filled f ss sides cell p q h = cell-filled ss (map f sides) cell (length-ma
     by : (k : ℕ) (d : LimitedScale) → k < length sides → k < length ss → slice_index cell k ≡ interval (get_or ss k d).boundaries (slice_index (map f sides) k)
     by k d r s = h k d Any s ∙ ap (interval (get_or ss k d).boundaries) (sym (get_or-map f sides k Any 0 r))
 
--- the range that was found for the scale and the side that were read at a place
+-- the range that was found for the scale and the side that were read at an index
 pub range-read : (ss : List LimitedScale) (sides : List Side) (a : ℕ) (s : LimitedScale) (low high : ℕ) → a < length ss → a < length sides → s ≡ get_or ss a s → AreRange s (get_or sides a Any) low high → AreRanges ss sides a low high
 range-read ss sides a s low high p q is h d e =
     subst (λ (x : LimitedScale). AreRange x (get_or sides a e) low high) (get_or_read ss a s p is d)

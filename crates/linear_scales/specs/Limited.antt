@@ -7,11 +7,11 @@ pub record LimitedScale : Type 0 where
   pub boundaries : List ℕ
   pub limit : ℕ
 
--- it is lawful where its boundaries are a scale and at most as many as its limit, a number of 32 bits
+-- it is lawful where its boundaries are a scale and at most as many as its limit, a number of 16 bits
 pub record IsLimited (s : LimitedScale) : Type 0 where
   pub scale : IsTrue (is_scale s.boundaries)
   pub count : length s.boundaries ≤ s.limit
-  pub in_range : s.limit < 2 ^ 32
+  pub in_range : s.limit < 2 ^ 16
 
 -- the scales without their limits
 abbrev pub scales_of : List LimitedScale → List (List ℕ)

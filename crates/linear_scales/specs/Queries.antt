@@ -1,4 +1,4 @@
--- The cells that a query meets.
+-- The box of the cells that a query meets.
 use Rattle.std.specs.Prelude.{◌≡◌, ℕ, List, map, IsTrue}
 use Rattle.grid_types.specs.declared.query.Side.{Side}
 use Rattle.grid_types.specs.Keys.{IsKey}

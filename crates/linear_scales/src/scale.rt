@@ -37,7 +37,7 @@ fn end(side: &Side) -> u64
 #[derive(Drop)]
 pub struct Scale {
     boundaries: Vec<u64>,
-    limit: u32,
+    limit: u16,
 }
 
 impl Model for Scale {
@@ -48,15 +48,18 @@ impl Model for Scale {
 
     ghost view = { λ s. record { boundaries = s.boundaries.items; limit = s.limit } };
 
-    ghost invariant = { λ s. record { lawful : IsLimited (record { boundaries = s.boundaries.items; limit = s.limit }); room : s.limit ≤ vec_capacity s.boundaries } };
+    ghost invariant = { λ s. record {
+      lawful : IsLimited (record { boundaries = s.boundaries.items; limit = s.limit });
+      room : s.limit ≤ vec_capacity s.boundaries;
+    } };
 }
 
 impl Scale {
-    /// A scale without boundaries.
-    pub fn new(alloc: Global, limit: u32) -> Result<Scale, AllocError>
+    /// A scale without boundaries. All memory for boundaries up to the limit is taken here.
+    pub fn new(alloc: Global, limit: u16) -> Result<Scale, AllocError>
         ensures { IfOk result (λ s. s ≡ record { boundaries = []; limit = limit }) }
     {
-        let boundaries = Vec::with_capacity(alloc, limit as usize)?;
+        let boundaries = Vec::with_capacity(alloc, limit.into())?;
         Ok(Scale { boundaries, limit })
     }
 
@@ -68,15 +71,15 @@ impl Scale {
         &self.boundaries
     }
 
-    pub fn limit(&self) -> u32
+    pub fn limit(&self) -> u16
         ensures value { result ≡ self.now.limit }
         ensures lawful { IsLimited self.now }
     {
         self.limit
     }
 
+    /// How many intervals there are, one more than boundaries.
     pub fn intervals(&self) -> u32
-        requires { self.now.limit < 4294967295 }
         ensures { result ≡ intervals self.now.boundaries }
     {
         self.boundaries.len() as u32 + 1
@@ -96,7 +99,9 @@ impl Scale {
         requires { i ≤ length self.now.boundaries }
         ensures low { result.0 ≡ low self.now.boundaries i }
         ensures high { result.1 ≡ high self.now.boundaries i }
-        ensures contain { (v : ℕ) → v ≤ top → ((result.0 ≤ v) × (v ≤ result.1)) ↔ (interval self.now.boundaries v ≡ i) }
+        ensures contain { (v : ℕ)
+            → v ≤ top
+            → ((result.0 ≤ v) × (v ≤ result.1)) ↔ (interval self.now.boundaries v ≡ i) }
     {
         let i = i as usize;
         (
@@ -129,7 +134,9 @@ impl Scale {
         requires { IsTrue (is_straight side.now) }
         ensures lowest { result.0 ≡ interval self.now.boundaries (begin_of side.now) }
         ensures highest { result.1 ≡ interval self.now.boundaries (end_of side.now) }
-        ensures meets { (i : ℕ) → i ≤ length self.now.boundaries → Meets self.now.boundaries side.now i ↔ ((result.0 ≤ i) × (i ≤ result.1)) }
+        ensures meets { (i : ℕ)
+            → i ≤ length self.now.boundaries
+            → Meets self.now.boundaries side.now i ↔ ((result.0 ≤ i) × (i ≤ result.1)) }
         ensures lawful { IsLimited self.now }
     {
         (self.interval(begin(side)), self.interval(end(side)))

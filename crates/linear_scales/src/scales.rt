@@ -1,10 +1,9 @@
 //! A scale for each attribute.
-ghost use Rattle.std.specs.Prelude.{◌≡◌, ◌<◌, ◌≤◌, ◌↔◌, ℕ, List, [], length, map, replicate, slice_index, slice_index_or, slice_set, IsTrue, All, OnOk, OnErr, IfOk, IfErr};
+ghost use Rattle.std.specs.Prelude.{◌≡◌, ◌<◌, ◌≤◌, ◌↔◌, ℕ, List, [], length, replicate, slice_index_or, IsTrue, OnOk, OnErr, IfOk, IfErr};
 ghost use Rattle.grid_types.specs.Queries.{is_straight, is_lawful};
-ghost use Rattle.grid_types.specs.Regions.{Within};
 ghost use Rattle.grid_types.specs.declared.query.Side.{Side};
-ghost use Rattle.grid_model.specs.Scales.{scale_of, interval, refined};
-ghost use Rattle.grid_model.specs.Cells.{dims, cell_of};
+ghost use Rattle.grid_model.specs.Scales.{scale_of, refined_at};
+ghost use Rattle.grid_model.specs.Cells.{dims, cell_of, InCellBox};
 ghost use Rattle.grid_model.specs.ScaleLaws.{IsCell};
 ghost use Rattle.linear_scales.specs.Limited.{LimitedScale, scales_of, limits_of};
 ghost use Rattle.linear_scales.specs.Refusals.{TakesBoundary, IsCause};
@@ -12,14 +11,14 @@ ghost use Rattle.linear_scales.specs.Sides.{begin_of, end_of, Meets};
 ghost use Rattle.linear_scales.specs.Queries.{lowest_cell, highest_cell, MeetsQuery};
 
 use crate::{Scale, ScaleRefused};
-use grid_types::{Key, Query, Side};
+use grid_types::{CellBox, Key, Query, Side};
 use std::alloc::{AllocError, Global};
 use std::marker::Model;
 
 /// A scale for each of the K attributes.
 #[derive(Drop)]
 pub struct Scales<const K: usize> {
-    of: Vec<Scale>,
+    scales: Vec<Scale>,
 }
 
 impl<const K: usize> Model for Scales<K> {
@@ -28,9 +27,9 @@ impl<const K: usize> Model for Scales<K> {
 
     ghost Value = { List LimitedScale };
 
-    ghost view = { λ s. s.of.items };
+    ghost view = { λ s. s.scales.items };
 
-    ghost invariant = { λ s. length s.of.items ≡ K };
+    ghost invariant = { λ s. length s.scales.items ≡ K };
 }
 
 /// Makes scales the other ones. It takes no memory.
@@ -44,7 +43,7 @@ fn copy_each(scales: &mut [Scale], others: &[Scale])
     }
 }
 
-/// The interval of each number in the scale at its place.
+/// The interval of each number in the scale of its attribute.
 fn intervals_of<const K: usize>(scales: &[Scale], numbers: &[u64; K]) -> [u32; K]
     requires { length scales.now ≡ K }
     ensures value { result ≡ cell_of (scales_of scales.now) numbers.now }
@@ -59,8 +58,7 @@ fn intervals_of<const K: usize>(scales: &[Scale], numbers: &[u64; K]) -> [u32; K
 
 /// How many intervals each scale has.
 fn dims_of<const K: usize>(scales: &[Scale]) -> [u32; K]
-    requires count { length scales.now ≡ K }
-    requires few { (a : ℕ) (d : LimitedScale) → a < K → (slice_index_or scales.now a d).limit < 4294967295 }
+    requires { length scales.now ≡ K }
     ensures { result ≡ dims (scales_of scales.now) }
 {
     let mut dims = [0; K];
@@ -70,34 +68,36 @@ fn dims_of<const K: usize>(scales: &[Scale]) -> [u32; K]
     dims
 }
 
-/// The lowest and the highest interval of each scale that meet the side at its place.
-fn ranges_of<const K: usize>(scales: &[Scale], sides: &[Side; K]) -> ([u32; K], [u32; K])
+/// The intervals of each scale that meet the side of its attribute, as a box of cells.
+fn ranges_of<const K: usize>(scales: &[Scale], sides: &[Side; K]) -> CellBox<K>
     requires count { length scales.now ≡ K }
     requires lawful { IsTrue (is_lawful sides.now) }
-    ensures lowest { result.0 ≡ lowest_cell (scales_of scales.now) sides.now }
-    ensures highest { result.1 ≡ highest_cell (scales_of scales.now) sides.now }
-    ensures meets { (cell : List ℕ) → IsCell (dims (scales_of scales.now)) cell → MeetsQuery K (scales_of scales.now) sides.now cell ↔ Within result.0 result.1 cell }
+    ensures lowest { result.lo ≡ lowest_cell (scales_of scales.now) sides.now }
+    ensures highest { result.hi ≡ highest_cell (scales_of scales.now) sides.now }
+    ensures meets { (cell : List ℕ)
+        → IsCell (dims (scales_of scales.now)) cell
+        → MeetsQuery K (scales_of scales.now) sides.now cell ↔ InCellBox result cell }
 {
-    let mut lowest = [0; K];
-    let mut highest = [0; K];
+    let mut lo = [0; K];
+    let mut hi = [0; K];
     for a in 0..K {
-        let (low, high) = scales[a].interval_range(&sides[a]);
-        lowest[a] = low;
-        highest[a] = high;
+        let (lowest, highest) = scales[a].interval_range(&sides[a]);
+        lo[a] = lowest;
+        hi[a] = highest;
     }
-    (lowest, highest)
+    CellBox { lo, hi }
 }
 
 impl<const K: usize> Scales<K> {
     /// A scale without boundaries for each attribute. All memory for boundaries up to the limit is taken here.
-    pub fn new(alloc: Global, limit: u32) -> Result<Scales<K>, AllocError>
+    pub fn new(alloc: Global, limit: u16) -> Result<Scales<K>, AllocError>
         ensures { IfOk result (λ s. s ≡ replicate K (record { boundaries = []; limit = limit })) }
     {
-        let mut of = Vec::with_capacity(alloc, K)?;
+        let mut scales = Vec::with_capacity(alloc, K)?;
         for _a in 0..K {
-            of.push(Scale::new(alloc, limit)?)?;
+            scales.push(Scale::new(alloc, limit)?)?;
         }
-        Ok(Scales { of })
+        Ok(Scales { scales })
     }
 
     /// The scale of an attribute.
@@ -107,20 +107,22 @@ impl<const K: usize> Scales<K> {
         ensures boundaries { result.now.boundaries ≡ scale_of (scales_of self.now) a }
         ensures count { length self.now ≡ K }
     {
-        &self.of[a]
+        &self.scales[a]
     }
 
     /// Adds a boundary to the scale of an attribute. It takes no memory.
     pub fn refine(&mut self, a: usize, v: u64) -> Result<(), ScaleRefused>
         requires attribute { a < K }
         requires low { 1 ≤ v }
-        ensures taken { (d : LimitedScale) → OnOk result (TakesBoundary (slice_index_or self.old a d) v) }
-        ensures refused { (d : LimitedScale) → IfErr result (IsCause (slice_index_or self.old a d) v) }
-        ensures scales { OnOk result (scales_of self.new ≡ slice_set (scales_of self.old) a (refined (scale_of (scales_of self.old) a) v)) }
+        ensures taken { (d : LimitedScale)
+            → OnOk result (TakesBoundary (slice_index_or self.old a d) v) }
+        ensures refused { (d : LimitedScale)
+            → IfErr result (IsCause (slice_index_or self.old a d) v) }
+        ensures scales { OnOk result (scales_of self.new ≡ refined_at (scales_of self.old) a v) }
         ensures limits { limits_of self.new ≡ limits_of self.old }
         ensures unchanged { OnErr result (self.new ≡ self.old) }
     {
-        self.of[a].refine(v)
+        self.scales[a].refine(v)
     }
 
     /// Makes these scales the other ones. It takes no memory.
@@ -128,15 +130,14 @@ impl<const K: usize> Scales<K> {
         requires { limits_of other.now ≡ limits_of self.old }
         ensures { self.new ≡ other.now }
     {
-        copy_each(&mut self.of, &other.of);
+        copy_each(&mut self.scales, &other.scales);
     }
 
     /// How many intervals each attribute has.
     pub fn dims(&self) -> [u32; K]
-        requires { (a : ℕ) (d : LimitedScale) → a < K → (slice_index_or self.now a d).limit < 4294967295 }
         ensures { result ≡ dims (scales_of self.now) }
     {
-        dims_of(&self.of)
+        dims_of(&self.scales)
     }
 
     /// The cell of a key.
@@ -144,16 +145,18 @@ impl<const K: usize> Scales<K> {
         ensures value { result ≡ cell_of (scales_of self.now) key.now.numbers }
         ensures inside { IsCell (dims (scales_of self.now)) result }
     {
-        intervals_of(&self.of, &key.numbers)
+        intervals_of(&self.scales, &key.numbers)
     }
 
-    /// The lowest and the highest cell of the box of cells that meet a query.
-    pub fn box_of(&self, query: &Query<K>) -> ([u32; K], [u32; K])
+    /// The box of the cells that a query meets.
+    pub fn cells_meeting(&self, query: &Query<K>) -> CellBox<K>
         requires { IsTrue (is_lawful query.now.sides) }
-        ensures lowest { result.0 ≡ lowest_cell (scales_of self.now) query.now.sides }
-        ensures highest { result.1 ≡ highest_cell (scales_of self.now) query.now.sides }
-        ensures meets { (cell : List ℕ) → IsCell (dims (scales_of self.now)) cell → MeetsQuery K (scales_of self.now) query.now.sides cell ↔ Within result.0 result.1 cell }
+        ensures lowest { result.lo ≡ lowest_cell (scales_of self.now) query.now.sides }
+        ensures highest { result.hi ≡ highest_cell (scales_of self.now) query.now.sides }
+        ensures meets { (cell : List ℕ)
+            → IsCell (dims (scales_of self.now)) cell
+            → MeetsQuery K (scales_of self.now) query.now.sides cell ↔ InCellBox result cell }
     {
-        ranges_of(&self.of, &query.sides)
+        ranges_of(&self.scales, &query.sides)
     }
 }

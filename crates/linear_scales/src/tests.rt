@@ -1,7 +1,7 @@
 ghost use Rattle.std.specs.Prelude.{◌≡◌, ◌≤◌, ◌<◌, IfOk};
 
 use super::*;
-use grid_types::{Key, Query, Side};
+use grid_types::{CellBox, Key, Query, Side};
 use std::alloc::{AllocError, Global};
 use std::test::*;
 
@@ -59,10 +59,9 @@ fn is_exact(alloc: Global, count: u32) -> Result<bool, AllocError>
 
 #[test]
 fn numbers_lie_in_their_intervals(rt: HostRuntime) -> Result<(), Fail> {
-    assert!(rt; is_exact(rt.alloc(), 0)?);
-    assert!(rt; is_exact(rt.alloc(), 1)?);
-    assert!(rt; is_exact(rt.alloc(), 5)?);
-    assert!(rt; is_exact(rt.alloc(), 1000)?);
+    for count in [0, 1, 5, 1000] {
+        assert!(rt; is_exact(rt.alloc(), count)?);
+    }
     Ok(())
 }
 
@@ -112,7 +111,13 @@ fn keys_and_queries_have_cells(rt: HostRuntime) -> Result<(), Fail> {
     let query = Query {
         sides: [Side::Any, Side::Between(4, 8)],
     };
-    assert_eq!(rt; copy.box_of(&query), ([0, 1], [1, 2]));
+    assert_eq!(rt;
+        copy.cells_meeting(&query),
+        CellBox {
+            lo: [0, 1],
+            hi: [1, 2]
+        }
+    );
     assert_eq!(rt; copy.scale(1).boundaries(), [4, 8].as_slice());
     Ok(())
 }

@@ -1,5 +1,5 @@
-use Rattle.grid_cells.specs.Boxes.{InBox}
+use Rattle.grid_model.specs.Cells.{InCellBox}
 use Rattle.grid_cells.proofs.tests.walked.Given as goal
 
 abbrev pub invariant-loop-i : goal.invariant-loop-i
-invariant-loop-i g l = InBox l.lo l.hi l.cell
+invariant-loop-i g l = InCellBox l.cells l.cell

@@ -5,7 +5,8 @@ use Rattle.grid_model.specs.Cells.{dims}
 use Rattle.grid_model.specs.ScaleLaws.{IsCell}
 use Rattle.grid_model.proofs.CellLaws.{key-has-cell}
 use Rattle.linear_scales.specs.Limited.{LimitedScale, scales_of}
-use Rattle.linear_scales.proofs.Filling.{step, cell-filled}
+use Rattle.grid_model.proofs.Filled.{step}
+use Rattle.linear_scales.proofs.Filling.{cell-filled}
 use Rattle.linear_scales.proofs.scales.intervals_of.Goals as goal
 
 pub loop-a-preserved : goal.loop-a-preserved

@@ -4,7 +4,7 @@ use Rattle.linear_scales.proofs.scales.ranges_of.Given as goal
 
 abbrev pub invariant-loop-a : goal.invariant-loop-a
 invariant-loop-a g l = record {
-  low : length l.lowest ≡ g.row.K;
-  high : length l.highest ≡ g.row.K;
-  each : (k : ℕ) → k < l.a → AreRanges l.scales l.sides k (slice_index l.lowest k) (slice_index l.highest k);
+  low : length l.lo ≡ g.row.K;
+  high : length l.hi ≡ g.row.K;
+  each : (k : ℕ) → k < l.a → AreRanges l.scales l.sides k (slice_index l.lo k) (slice_index l.hi k);
 }

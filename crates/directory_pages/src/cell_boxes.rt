@@ -1,0 +1,96 @@
+//! The cells of a box that lie on a part, and the parts that hold one of them.
+ghost use Rattle.std.specs.Prelude.{◌≡◌, ◌<◌, ◌*◌, ◌%◌, ◌↔◌, ℕ, List, length, slice_index, IsTrue, IfSome, MatchOption};
+ghost use Rattle.grid_types.specs.Regions.{Within};
+ghost use Rattle.grid_model.specs.Lists.{product};
+ghost use Rattle.grid_model.specs.Cells.{cell_index, InCellBox};
+ghost use Rattle.directory_pages.specs.Spelling.{SpellsPart, bucket_in};
+ghost use Rattle.directory_pages.specs.CellBoxes.{cells_on, LiesOnPart, HoldsCell, IsNextPart, IsNoneFrom, IsPatched, IsBesideCellBox};
+
+use crate::set_bucket;
+use grid_cells::Dims;
+use grid_types::CellBox;
+
+/// Whether each interval lies between the bounds of its attribute.
+fn all_between<const K: usize>(lo: &[u32; K], cell: &[u32; K], hi: &[u32; K]) -> bool
+    ensures within { IsTrue result ↔ Within lo.now hi.now cell.now }
+    ensures count { length cell.now ≡ length lo.now }
+{
+    for a in 0..K {
+        if cell[a] < lo[a] || hi[a] < cell[a] {
+            return false;
+        }
+    }
+    true
+}
+
+/// Whether the cell lies in the box.
+fn is_in_cell_box<const K: usize>(cells: &CellBox<K>, cell: &[u32; K]) -> bool
+    ensures { IsTrue result ↔ InCellBox cells.now cell.now }
+{
+    all_between(&cells.lo, cell, &cells.hi)
+}
+
+/// How many cells the part has.
+fn cells_on<const K: usize>(dims: &Dims<K>, part: u32) -> u32
+    requires { 1000 * part < product dims.now.intervals }
+    ensures { result ≡ cells_on dims.now.intervals part }
+{
+    (dims.cells() - 1000 * part).min(1000)
+}
+
+/// Whether the part holds a cell of the box.
+fn holds_cell<const K: usize>(dims: &Dims<K>, cells: &CellBox<K>, part: u32) -> bool
+    requires { 1000 * part < product dims.now.intervals }
+    ensures { IsTrue result ↔ HoldsCell dims.now.intervals cells.now part }
+{
+    for i in 0..cells_on(dims, part) {
+        if is_in_cell_box(cells, &dims.cell(1000 * part + i)) {
+            return true;
+        }
+    }
+    false
+}
+
+/// The least part from this one on that holds a cell of the box. Whoever asks again from the part behind it comes to
+/// each of them, in ascending order.
+pub fn next_part<const K: usize>(dims: &Dims<K>, cells: &CellBox<K>, from: u32) -> Option<u32>
+    ensures there { IfSome result (λ part. 1000 * part < product dims.now.intervals) }
+    ensures next { MatchOption result
+        (IsNoneFrom dims.now.intervals cells.now from)
+        (IsNextPart dims.now.intervals cells.now from) }
+{
+    for part in from..dims.cells().div_ceil(1000) {
+        if holds_cell(dims, cells, part) {
+            return Some(part);
+        }
+    }
+    None
+}
+
+/// Gives each cell of the box that lies on this part the bucket, and changes no other byte of its page.
+pub fn patch_cell_box<const K: usize>(
+    page: &mut [u8; 4096],
+    part: u32,
+    dims: &Dims<K>,
+    cells: &CellBox<K>,
+    bucket: u32,
+)
+    requires { 1000 * part < product dims.now.intervals }
+    ensures named { (cell : List ℕ)
+        → LiesOnPart dims.now.intervals cells.now part cell
+        → bucket_in (cell_index dims.now.intervals cell % 1000) page.new ≡ bucket }
+    ensures others { (k : ℕ)
+        → IsBesideCellBox dims.now.intervals cells.now part k
+        → slice_index page.new k ≡ slice_index page.old k }
+    ensures cells { (before after : List ℕ)
+        → SpellsPart part page.old before
+        → length before ≡ cells_on dims.now.intervals part
+        → IsPatched dims.now.intervals cells.now part bucket before after
+        → SpellsPart part page.new after }
+{
+    for i in 0..cells_on(dims, part) {
+        if is_in_cell_box(cells, &dims.cell(1000 * part + i)) {
+            set_bucket(page, i, bucket);
+        }
+    }
+}

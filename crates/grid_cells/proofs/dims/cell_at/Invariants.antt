@@ -1,5 +1,0 @@
-use Rattle.grid_cells.proofs.Cells.{Dealt}
-use Rattle.grid_cells.proofs.dims.cell_at.Given as goal
-
-abbrev pub invariant-loop-a : goal.invariant-loop-a
-invariant-loop-a g l = Dealt l.numbers l.cell l.a l.size l.rest l.at
