@@ -11,7 +11,8 @@ use Rattle.grid_model.specs.Lawful.{IsRootOn, Area, pages_named}
 use Rattle.root_pages.specs.Areas.{SpellsScale, SpellsList, SpellsTable}
 use Rattle.file_roots.specs.Damage.{SpellsUpTo}
 use Rattle.file_roots.proofs.Pieces.{piece_last, same_front}
-use Rattle.file_roots.proofs.Spelled.{scale_there, list_there, table_there, one_scale, one_list, one_table}
+use Rattle.root_pages.proofs.KindsOfPages.{one_scale_spelled, one_list_spelled, one_table_spelled}
+use Rattle.file_roots.proofs.Spelled.{scale_there, list_there, table_there}
 
 module _ (s : Shape) (image : List ℕ) (r : RootFields) (lawful : IsTrue (is_shape s)) (root : IsRootOn s (header_page r.number) r) (n : ℕ) (a more : Area)
     (spelled : SpellsUpTo s image r n a) (further : SpellsUpTo s image r (n + 1) more) where
@@ -24,14 +25,14 @@ module _ (s : Shape) (image : List ℕ) (r : RootFields) (lawful : IsTrue (is_sh
       let old = scale_of a.scales (n / 2) in
       let all = scale_of more.scales (n / 2) in
       let from = 500 * (n % 2) in
-      let last : take 500 (drop from all) ≡ xs = one_scale r.number n (page n) _ xs (scale_there s image r lawful root (n + 1) more further n (omega arith) le) here in
+      let last : take 500 (drop from all) ≡ xs = one_scale_spelled r.number n (page n) _ xs (scale_there s image r lawful root (n + 1) more further n (omega arith) le) here in
       let front : take from all ≡ old = elim (one-of-two (n % 2) (omega arith)) [
         | inl even ↦ ap (λ (k : ℕ). take (500 * k) all) even ∙ sym (nil_from_length old (omega (arith, spelled.boundaries (n / 2), even)))
         | inr odd ↦
             let before : n - 1 < n = omega (arith, odd) in
             let mine = scale_there s image r lawful root n a spelled (n - 1) before (omega (arith, le)) in
             let theirs = scale_there s image r lawful root (n + 1) more further (n - 1) (omega arith) (omega (arith, le)) in
-            let one : take 500 (drop (500 * ((n - 1) % 2)) (scale_of more.scales ((n - 1) / 2))) ≡ take 500 (drop (500 * ((n - 1) % 2)) (scale_of a.scales ((n - 1) / 2))) = one_scale r.number (n - 1) (page (n - 1)) _ _ theirs mine in
+            let one : take 500 (drop (500 * ((n - 1) % 2)) (scale_of more.scales ((n - 1) / 2))) ≡ take 500 (drop (500 * ((n - 1) % 2)) (scale_of a.scales ((n - 1) / 2))) = one_scale_spelled r.number (n - 1) (page (n - 1)) _ _ theirs mine in
             let zeroth : (n - 1) % 2 ≡ 0 = omega (arith, odd) in
             let same : (n - 1) / 2 ≡ n / 2 = omega (arith, odd) in
             let at_zero : take 500 (scale_of more.scales ((n - 1) / 2)) ≡ take 500 (scale_of a.scales ((n - 1) / 2)) = subst (λ (k : ℕ). take 500 (drop (500 * k) (scale_of more.scales ((n - 1) / 2))) ≡ take 500 (drop (500 * k) (scale_of a.scales ((n - 1) / 2)))) zeroth one in
@@ -45,7 +46,7 @@ module _ (s : Shape) (image : List ℕ) (r : RootFields) (lawful : IsTrue (is_sh
   list_agrees xs eighth here =
       let theirs = list_there s image r lawful root (n + 1) more further (omega (arith, eighth)) in
       let mine : SpellsList r.number 8 (page 8) xs = subst (λ (k : ℕ). SpellsList r.number k (page k) xs) eighth here in
-      let list : more.parts ≡ xs = one_list r.number 8 (page 8) _ xs theirs mine in
+      let list : more.parts ≡ xs = one_list_spelled r.number 8 (page 8) _ xs theirs mine in
       let later : more.table ≡ [] = nil_from_length more.table (omega (arith, further.numbers, eighth)) in
       let parts : a.parts ≡ [] = nil_from_length a.parts (omega (arith, spelled.parts, eighth)) in
       let table : a.table ≡ [] = nil_from_length a.table (omega (arith, spelled.numbers, eighth)) in
@@ -55,12 +56,12 @@ module _ (s : Shape) (image : List ℕ) (r : RootFields) (lawful : IsTrue (is_sh
   pub table_agrees : (xs : List ℕ) → 9 ≤ n → n < area_pages s → SpellsTable r.number n (page n) xs → (more.parts ≡ a.parts) × (more.table ≡ a.table ++ xs)
   table_agrees xs ninth inside here =
       let from = 1000 * (n - 9) in
-      let list = one_list r.number 8 (page 8) _ _ (list_there s image r lawful root (n + 1) more further (omega (arith, ninth))) (list_there s image r lawful root n a spelled (omega (arith, ninth))) in
-      let last : take 1000 (drop from more.table) ≡ xs = one_table r.number n (page n) _ xs (table_there s image r lawful root (n + 1) more further n (omega arith) ninth inside) here in
+      let list = one_list_spelled r.number 8 (page 8) _ _ (list_there s image r lawful root (n + 1) more further (omega (arith, ninth))) (list_there s image r lawful root n a spelled (omega (arith, ninth))) in
+      let last : take 1000 (drop from more.table) ≡ xs = one_table_spelled r.number n (page n) _ xs (table_there s image r lawful root (n + 1) more further n (omega arith) ninth inside) here in
       let front : take from more.table ≡ take from a.table = same_front (n - 9) more.table a.table (λ k lt.
       let back : k + 9 - 9 ≡ k = omega arith in
       subst (λ (j : ℕ). take 1000 (drop (1000 * j) more.table) ≡ take 1000 (drop (1000 * j) a.table)) back
-      (one_table r.number (k + 9) (page (k + 9)) _ _
+      (one_table_spelled r.number (k + 9) (page (k + 9)) _ _
       (table_there s image r lawful root (n + 1) more further (k + 9) (omega (arith, lt)) (omega arith) (omega (arith, lt, inside)))
       (table_there s image r lawful root n a spelled (k + 9) (omega (arith, lt)) (omega arith) (omega (arith, lt, inside))))) in
       let whole : take from a.table ≡ a.table = take_all from a.table (omega (arith, spelled.numbers)) in
@@ -74,7 +75,7 @@ one_table_of s image r lawful root n a b le x y =
     ∙ same_front (n - 9) a.table b.table (λ k lt.
     let back : k + 9 - 9 ≡ k = omega arith in
     subst (λ (j : ℕ). take 1000 (drop (1000 * j) a.table) ≡ take 1000 (drop (1000 * j) b.table)) back
-    (one_table r.number (k + 9) (page_of (table_page s (header_page r.number) (k + 9)) image) _ _
+    (one_table_spelled r.number (k + 9) (page_of (table_page s (header_page r.number) (k + 9)) image) _ _
     (table_there s image r lawful root n a x (k + 9) (omega (arith, lt)) (omega arith) (omega (arith, lt, le)))
     (table_there s image r lawful root n b y (k + 9) (omega (arith, lt)) (omega arith) (omega (arith, lt, le)))))
     ∙ take_all from b.table (omega (arith, y.numbers))

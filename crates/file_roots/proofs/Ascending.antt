@@ -10,25 +10,25 @@ use Rattle.linear_scales.specs.declared.refused.ScaleRefused.TheVariants.{Presen
 use Rattle.linear_scales.specs.Refusals.{IsCause}
 
 -- what lies above the last boundary lies above the number from which they ascend
-above : (s l v : ℕ) (bs : List ℕ) → ascends_from l bs ≡ true → s < l → slice_index (s ∷ bs) (length bs) < v → s < v
-above s l v [] e p h = h
-above s l v (b ∷ bs) e p h = omega (arith, above b (b + 1) v bs (goes-on l b bs e) (omega arith) h, starts l b bs e, p)
+goes_above : (s l v : ℕ) (bs : List ℕ) → ascends_from l bs ≡ true → s < l → slice_index (s ∷ bs) (length bs) < v → s < v
+goes_above s l v [] e p h = h
+goes_above s l v (b ∷ bs) e p h = omega (arith, goes_above b (b + 1) v bs (goes-on l b bs e) (omega arith) h, starts l b bs e, p)
 
-stands-later : (v b : ℕ) (bs : List ℕ) → b < v → refined (b ∷ bs) v ≡ b ∷ refined bs v
-stands-later v b bs p =
+refined_later : (v b : ℕ) (bs : List ℕ) → b < v → refined (b ∷ bs) v ≡ b ∷ refined bs v
+refined_later v b bs p =
     ap (λ (t : Bool). cond t (b ∷ filter (λ b. nat_lt b v) bs) (filter (λ b. nat_lt b v) bs) ++ v ∷ cond (nat_lt v b) (b ∷ filter (λ b. nat_lt v b) bs) (filter (λ b. nat_lt v b) bs)) (lt-ltb b v p)
     ∙ ap (λ (t : Bool). (b ∷ filter (λ b. nat_lt b v) bs) ++ v ∷ cond t (b ∷ filter (λ b. nat_lt v b) bs) (filter (λ b. nat_lt v b) bs)) (le-ltb v b (omega (arith, p)))
 
 refined_last : (s l v : ℕ) (bs : List ℕ) → ascends_from l bs ≡ true → slice_index (s ∷ bs) (length bs) < v → refined bs v ≡ bs ++ v ∷ []
 refined_last s l v [] e h = refl
 refined_last s l v (b ∷ bs) e h =
-    stands-later v b bs (above b (b + 1) v bs (goes-on l b bs e) (omega arith) h) ∙ ap (λ xs. b ∷ xs) (refined_last b (b + 1) v bs (goes-on l b bs e) h)
+    refined_later v b bs (goes_above b (b + 1) v bs (goes-on l b bs e) (omega arith) h) ∙ ap (λ xs. b ∷ xs) (refined_last b (b + 1) v bs (goes-on l b bs e) h)
 
-fresh : (s l v : ℕ) (bs : List ℕ) → ascends_from l bs ≡ true → slice_index (s ∷ bs) (length bs) < v → is_among bs v ≡ false
-fresh s l v [] e h = refl
-fresh s l v (b ∷ bs) e h =
-    let lt = above b (b + 1) v bs (goes-on l b bs e) (omega arith) h in
-    ap (λ t. t || is_among bs v) (ne_eqb b v (λ same. absurd (omega (arith, same, lt)))) ∙ fresh b (b + 1) v bs (goes-on l b bs e) h
+none_among : (s l v : ℕ) (bs : List ℕ) → ascends_from l bs ≡ true → slice_index (s ∷ bs) (length bs) < v → is_among bs v ≡ false
+none_among s l v [] e h = refl
+none_among s l v (b ∷ bs) e h =
+    let lt = goes_above b (b + 1) v bs (goes-on l b bs e) (omega arith) h in
+    ap (λ t. t || is_among bs v) (ne_eqb b v (λ same. absurd (omega (arith, same, lt)))) ∙ none_among b (b + 1) v bs (goes-on l b bs e) h
 
 ascends : (s l v : ℕ) (bs : List ℕ) → ascends_from l bs ≡ true → s + 1 ≡ l → v ≤ top → slice_index (s ∷ bs) (length bs) < v → ascends_from l (bs ++ v ∷ []) ≡ true
 ascends s l v [] e n t h = ascending l v [] (omega (arith, n, h)) t refl
@@ -57,7 +57,11 @@ module _ (scale : List ℕ) (v : ℕ) where
 
   -- it is no boundary yet
   pub is_fresh : IsTrue (is_scale scale) → low scale (length scale) < v → is_among scale v ≡ false
-  is_fresh e h = fresh 0 1 v scale e h
+  is_fresh e h = none_among 0 1 v scale e h
+
+-- the low bound of the last interval, where the boundaries were read twice
+pub last_bound : (b : ℕ) (own read scale : List ℕ) → b ≡ low own (length read) → read ≡ own → own ≡ scale → b ≡ low scale (length scale)
+last_bound b own read scale is same whole = is ∙ ap (λ xs. low own (length xs)) (same ∙ whole) ∙ ap (λ xs. low xs (length scale)) whole
 
 -- the front of a scale is a scale
 pub front_of_scale : (bs cs : List ℕ) → IsTrue (is_scale (bs ++ cs)) → IsTrue (is_scale bs)

@@ -6,14 +6,14 @@ use Rattle.grid_model.specs.Scales.{scale_of}
 use Rattle.grid_model.specs.Lawful.{nowhere, pages_named}
 
 -- one more
-pub named_more : (xs : List ℕ) (i : ℕ) → i < length xs → get_or xs i 0 ≢ 4294967295 → length (pages_named (take (i + 1) xs)) ≡ length (pages_named (take i xs)) + 1
+pub count_more : (xs : List ℕ) (i : ℕ) → i < length xs → get_or xs i 0 ≢ 4294967295 → length (pages_named (take (i + 1) xs)) ≡ length (pages_named (take i xs)) + 1
 unfolding nowhere
-named_more xs i lt other = grind (arith, length-filter_more (λ p. not (eqb p 4294967295)) xs i 0 lt)
+count_more xs i lt other = grind (arith, length-filter_more (λ p. not (eqb p 4294967295)) xs i 0 lt)
 
 -- and none more
-pub named_as_many : (xs : List ℕ) (i : ℕ) → i < length xs → get_or xs i 0 ≡ 4294967295 → length (pages_named (take (i + 1) xs)) ≡ length (pages_named (take i xs))
+pub count_same : (xs : List ℕ) (i : ℕ) → i < length xs → get_or xs i 0 ≡ 4294967295 → length (pages_named (take (i + 1) xs)) ≡ length (pages_named (take i xs))
 unfolding nowhere
-named_as_many xs i lt same = grind (arith, length-filter_more (λ p. not (eqb p 4294967295)) xs i 0 lt)
+count_same xs i lt same = grind (arith, length-filter_more (λ p. not (eqb p 4294967295)) xs i 0 lt)
 
 -- the lengths of lists, one behind the other
 pub lengths_filled : (xss : List (List ℕ)) (ns : List ℕ) → length ns ≡ length xss → ((k : ℕ) → k < length ns → slice_index ns k ≡ length (scale_of xss k)) → ns ≡ map length xss

@@ -15,9 +15,9 @@ use Rattle.grid_model.specs.Images.{area_spelling, half_of_scale}
 use Rattle.grid_model.proofs.Counts.{count}
 use Rattle.file_roots.specs.Damage.{SpellsUpTo, HasAreaUpTo}
 use Rattle.file_roots.proofs.Ascending.{front_of_scale}
-use Rattle.file_roots.proofs.Marking.{named_both, count_both}
+use Rattle.file_roots.proofs.Marking.{named_both, count_both, all_front, all_rest}
 use Rattle.file_roots.proofs.Pieces.{half_piece}
-use Rattle.file_roots.proofs.Spelled.{area_page_scale, area_page_table, few, all_front, all_rest}
+use Rattle.file_roots.proofs.Spelled.{area_page_scale, area_page_table, few}
 
 -- the scales from an attribute on, as far as the first n pages have them
 abbrev pub cut_from : ℕ → ℕ → List (List ℕ) → List (List ℕ)

@@ -1,25 +1,23 @@
 -- What an image shows of its roots while one of them is closed and written anew, also after attempts that failed.
 use Rattle.std.proofs.Common.{◌≡◌, ◌≢◌, ◌<◌, inl, inr, ◌+◌, ℕ, List, [], ◌∷◌, IsTrue, sym, ap, subst, ◌∙◌, arith}
-use Rattle.std.specs.Prelude.{Option, Some, None, Result, Ok, Err, OnErr}
+use Rattle.std.specs.Prelude.{Option, Some, None}
 use Rattle.std.proofs.lemmas.Bool.{cases_eq}
 use Rattle.grid_types.specs.declared.shape.Shape.{Shape}
 use Rattle.grid_types.specs.Shapes.{is_shape, header_page, header_gate_at}
 use Rattle.grid_types.proofs.Places.{one-of-two}
 use Rattle.grid_model.specs.Spellings.{RootFields}
 use Rattle.grid_model.specs.Images.{header_gate, IsOpenOver}
-use Rattle.disk_trait.specs.Disk.{Agrees, Only}
-use Rattle.disk_trait.specs.Moments.{After, Always, AgreesOutside, LeavesOnly}
-use Rattle.disk_trait.proofs.Moments.{weakened}
-use Rattle.disk_trait.proofs.Ranges.{outside_one, outside_more, outside_then}
+use Rattle.disk_trait.specs.Disk.{Agrees}
+use Rattle.file_roots.specs.Places.{GateAlone}
 use Rattle.file_roots.specs.Roots.{WholeRoot}
-use Rattle.file_roots.specs.Replacing.{IsWhole, ShowsOld, IsOneOf, ComesNext, IsOtherOlder, KeepsOld, IsReady, HasFields, HasOlder, HasTried, HasOneTried, IsReplaceable, NextMayBeWritten, OldOrTriedIsNewest, KeptIsOlder, Within, area_range, header_ranges, root_ranges}
+use Rattle.file_roots.specs.Replacing.{IsNewestWhole, ShowsOld, IsOneOf, ComesNext, IsOtherOlder, KeepsOld, IsReady, HasFields, HasOlder, HasTried, HasOneTried, IsReplaceable, NextMayBeWritten}
 use Rattle.file_roots.proofs.Headers.{header_two, fields_stay, area_above}
-use Rattle.file_roots.proofs.Stages.{other_header, kept_beside}
+use Rattle.file_roots.proofs.Stages.{other_header, apart_on_header, kept_stays}
 
 module _ (s : Shape) where
   -- fields under an open gate
-  opened : (header : ℕ) (r : RootFields) (c : List ℕ) → header_gate c header ≡ 1 → HasFields s header r c → IsOpenOver s c header r
-  opened header r c gate has = record { gate = gate; spelled = has.spelled; lawful = has.lawful }
+  open_over_fields : (header : ℕ) (r : RootFields) (c : List ℕ) → header_gate c header ≡ 1 → HasFields s header r c → IsOpenOver s c header r
+  open_over_fields header r c gate has = record { gate = gate; spelled = has.spelled; lawful = has.lawful }
 
   -- where the old root is kept, the other header page than the next root's is older
   pub kept_is_older : (number : ℕ) (old : Option WholeRoot) (c : List ℕ) → ComesNext old number → KeepsOld s number old c → IsOtherOlder s number c
@@ -52,18 +50,18 @@ module _ (s : Shape) where
   shows_above number (Some old) c comes keeps gate older = record {
     newest = record {
       opens = keeps.opens;
-      other = inr (older.0, subst (λ h. IsOpenOver s c h older.0) (sym (other_header old.fields.number number comes.apart)) (opened (header_page number) older.0 c gate older.1), older.2);
+      other = inr (older.0, subst (λ h. IsOpenOver s c h older.0) (sym (other_header old.fields.number number comes.apart)) (open_over_fields (header_page number) older.0 c gate older.1), older.2);
     };
     area = keeps.area;
   }
 
   -- a root that was tried is the newest under its open gate
-  shows_tried : (number : ℕ) (old : Option WholeRoot) (w : WholeRoot) (c : List ℕ) → KeepsOld s number old c → header_gate c (header_page number) ≡ 1 → HasTried s (header_page number) old w c → IsWhole s w.fields w.area c
+  shows_tried : (number : ℕ) (old : Option WholeRoot) (w : WholeRoot) (c : List ℕ) → KeepsOld s number old c → header_gate c (header_page number) ≡ 1 → HasTried s (header_page number) old w c → IsNewestWhole s w c
   shows_tried number old w c keeps gate has =
       let own : header_page w.fields.number ≡ header_page number = has.fields.lawful.parity in
       record {
         newest = record {
-          opens = subst (λ h. IsOpenOver s c h w.fields) (sym own) (opened (header_page number) w.fields c gate has.fields);
+          opens = subst (λ h. IsOpenOver s c h w.fields) (sym own) (open_over_fields (header_page number) w.fields c gate has.fields);
           other = kept_is_older w.fields.number old c has.next (kept_beside_other number w.fields.number old c own keeps);
         };
         area = has.area;
@@ -80,8 +78,8 @@ module _ (s : Shape) where
   tried_is_one number old (w ∷ ws) c keeps gate (inr more) = inr (tried_is_one number old ws c keeps gate more)
 
   -- where a root may be written, the old one or one that was tried is the newest
-  pub shown : (number gate : ℕ) (old : Option WholeRoot) (tried : List WholeRoot) (c : List ℕ) → ComesNext old number → IsReplaceable s number gate old tried c → IsOneOf s old tried c
-  shown number gate old tried c comes is = elim (cases_eq (header_gate c (header_page number)) 1) [
+  pub old_or_tried_is_newest : (number gate : ℕ) (old : Option WholeRoot) (tried : List WholeRoot) (c : List ℕ) → ComesNext old number → IsReplaceable s number gate old tried c → IsOneOf s old tried c
+  old_or_tried_is_newest number gate old tried c comes is = elim (cases_eq (header_gate c (header_page number)) 1) [
     | inr shut ↦ old_is_one old tried c (shows_old number old c comes (record { keeps = is.keeps; closed = shut }))
     | inl open_now ↦ elim is.under [
       | inl closed ↦ absurd (closed.1 open_now)
@@ -93,9 +91,9 @@ module _ (s : Shape) where
   ]
 
   -- one root more
-  pub one_more : (old : Option WholeRoot) (w : WholeRoot) (ws : List WholeRoot) (c : List ℕ) → IsOneOf s old (w ∷ []) c → IsOneOf s old (w ∷ ws) c
-  one_more old w ws c (inl is) = inl is
-  one_more old w ws c (inr shows) = inr (old_is_one old ws c shows)
+  pub one_of_more : (old : Option WholeRoot) (w : WholeRoot) (ws : List WholeRoot) (c : List ℕ) → IsOneOf s old (w ∷ []) c → IsOneOf s old (w ∷ ws) c
+  one_of_more old w ws c (inl is) = inl is
+  one_of_more old w ws c (inr shows) = inr (old_is_one old ws c shows)
 
   pub tried_before : (number gate : ℕ) (old : Option WholeRoot) (w : WholeRoot) (ws : List WholeRoot) (c : List ℕ) → IsReplaceable s number gate old ws c → IsReplaceable s number gate old (w ∷ ws) c
   tried_before number gate old w ws c is = record {
@@ -117,7 +115,7 @@ module _ (s : Shape) where
     older_stays header None c d a has = has
     older_stays header (Some old) c d a has = (has.0, has_stays header has.0 c d a has.1, has.2)
 
-    tried_stays : (number : ℕ) (old : Option WholeRoot) (tried : List WholeRoot) (c d : List ℕ) → Agrees (header_gate_at (header_page number)) 1 c d → HasOneTried s (header_page number) old tried c → HasOneTried s (header_page number) old tried d
+    tried_stays : (number : ℕ) (old : Option WholeRoot) (tried : List WholeRoot) (c d : List ℕ) → GateAlone number c d → HasOneTried s (header_page number) old tried c → HasOneTried s (header_page number) old tried d
     tried_stays number old [] c d a has = has
     tried_stays number old (w ∷ ws) c d a (inl is) = inl (record {
       fields = has_stays (header_page number) w.fields c d a is.fields;
@@ -127,47 +125,35 @@ module _ (s : Shape) where
     tried_stays number old (w ∷ ws) c d a (inr more) = inr (tried_stays number old ws c d a more)
 
     module _ (number : ℕ) (old : Option WholeRoot) (comes : ComesNext old number) (tried : List WholeRoot) where
+      kept : (c d : List ℕ) → GateAlone number c d → KeepsOld s number old c → KeepsOld s number old d
+      kept c d a keeps =
+          let at = header_gate_at (header_page number) in
+          kept_stays s number at 1 (apart_on_header s number lawful at 1 (omega arith) (omega arith)) c d a old comes keeps
+
       -- once the gate is closed, the new root may be written
-      pub closed_ready : (gate : ℕ) (c d : List ℕ) → IsReplaceable s number gate old tried c → Agrees (header_gate_at (header_page number)) 1 c d → header_gate d (header_page number) ≢ 1 → IsReady s number old d
-      closed_ready gate c d is a shut = record { keeps = kept_beside s number lawful old comes (header_gate_at (header_page number)) 1 c d (omega arith) (omega arith) a is.keeps; closed = shut }
+      pub closed_ready : (gate : ℕ) (c d : List ℕ) → IsReplaceable s number gate old tried c → GateAlone number c d → header_gate d (header_page number) ≢ 1 → IsReady s number old d
+      closed_ready gate c d is a shut = record { keeps = kept c d a is.keeps; closed = shut }
 
       -- while a gate that reads as open is closed, it may be tried again, whatever it reads as then
-      pub while_closing : (gate then : ℕ) (c d : List ℕ) → gate ≡ 1 → IsReplaceable s number gate old tried c → Agrees (header_gate_at (header_page number)) 1 c d → IsReplaceable s number then old tried d
+      pub while_closing : (gate then : ℕ) (c d : List ℕ) → gate ≡ 1 → IsReplaceable s number gate old tried c → GateAlone number c d → IsReplaceable s number then old tried d
       while_closing gate then c d one is a = record {
-        keeps = kept_beside s number lawful old comes (header_gate_at (header_page number)) 1 c d (omega arith) (omega arith) a is.keeps;
+        keeps = kept c d a is.keeps;
         under = elim is.under [
           | inl closed ↦ absurd (closed.0 one)
           | inr has ↦ inr (elim has [ inl older ↦ inl (older_stays (header_page number) old c d a older) | inr other ↦ inr (tried_stays number old tried c d a other) ])
         ];
       }
 
-      -- each image after the closing
-      pub closing_again : (before : List ℕ → Type 0) (gate then : ℕ) → Always before (IsReplaceable s number gate old tried) → (d : List ℕ) → After (Agrees (header_gate_at (header_page number)) 1) before d
-          → (gate ≢ 1 → before d × (then ≡ gate)) → IsReplaceable s number then old tried d
-      closing_again before gate then may d from unwritten = elim (cases_eq gate 1) [
-        | inl one ↦ while_closing gate then from.0 d one (may from.0 from.1) from.2
-        | inr other ↦ let is = unwritten other in subst (λ (g : ℕ). IsReplaceable s number g old tried d) (sym is.1) (may d is.0)
-      ]
-
-      -- each moment of the closing
-      pub closing_moments : {D : Type 0} (moment : D → ℕ) (left_since : D → ℕ → List ℕ → Type 0) (first then : D) (before : List ℕ → Type 0) (gate : ℕ)
-          → LeavesOnly moment left_since first then (After (Agrees (header_gate_at (header_page number)) 1) before) → (gate ≢ 1 → LeavesOnly moment left_since first then before)
-          → Always before (IsReplaceable s number gate old tried) → LeavesOnly moment left_since first then (IsOneOf s old tried)
-      closing_moments moment left_since first then before gate written unwritten may = elim (cases_eq gate 1) [
-        | inl one ↦ weakened moment left_since first then _ _ written (λ d from. shown number 0 old tried d comes (while_closing gate 0 from.0 d one (may from.0 from.1) from.2))
-        | inr other ↦ weakened moment left_since first then _ _ (unwritten other) (λ d is. shown number gate old tried d comes (may d is))
-      ]
-
 -- where the old root is the newest, or there is none, the next may be written
-pub next_may_be : NextMayBeWritten
-next_may_be s number gate None image comes none is =
+pub next_may_be_written : NextMayBeWritten
+next_may_be_written s number gate None image comes none is =
     let shut : (header : ℕ) → header < 2 → header_gate image header ≢ 1 = λ header two. elim (one-of-two header two) [
       | inl zeroth ↦ λ e. none.zeroth (ap (header_gate image) (sym zeroth) ∙ e)
       | inr first ↦ λ e. none.first (ap (header_gate image) (sym first) ∙ e)
     ] in
     let closed = shut (header_page number) (header_two number) in
     record { keeps = shut (header_page (number + 1)) (header_two (number + 1)); under = inl (λ e. closed (is ∙ e), closed) }
-next_may_be s number gate (Some old) image comes whole is =
+next_may_be_written s number gate (Some old) image comes whole is =
     let next : header_page (old.fields.number + 1) ≡ header_page number = other_header old.fields.number number comes.apart in
     record {
       keeps = record { opens = whole.newest.opens; area = whole.area };
@@ -178,35 +164,3 @@ next_may_be s number gate (Some old) image comes whole is =
             inr (inl (older.0, record { spelled = opens.spelled; lawful = opens.lawful }, older.2))
       ];
     }
-
-pub old_or_tried : OldOrTriedIsNewest
-old_or_tried s number gate old tried image comes is = shown s number gate old tried image comes is
-
-pub kept_older : KeptIsOlder
-kept_older s number old image comes keeps = kept_is_older s number old image comes keeps
-
--- what is said of a failure holds where it always does
-pub on_err : {T E : Type 0} {P : Type 0} (r : Result T E) → P → OnErr r P
-on_err (Ok t) p = tt
-on_err (Err e) p = p
-
--- the bytes of the gate, of the header page and of the table area are among those that a root writes
-pub gate_of_root : (s : Shape) (header : ℕ) (c d : List ℕ) → Agrees (header_gate_at header) 1 c d → AgreesOutside (root_ranges s header) c d
-gate_of_root s header c d a = outside_more _ _ c d (λ i o. (o.1.1.0, tt)) (outside_one _ _ c d a)
-
-pub header_of_root : (s : Shape) (header : ℕ) (c d : List ℕ) → AgreesOutside (header_ranges header) c d → AgreesOutside (root_ranges s header) c d
-header_of_root s header c d a = outside_more _ _ c d (λ i o. o.1) a
-
-pub area_of_root : (s : Shape) (header : ℕ) (c d : List ℕ) → Within (area_range s header) c d → AgreesOutside (root_ranges s header) c d
-area_of_root s header c d a = outside_more _ _ c d (λ i o. (o.0, tt)) (outside_one _ _ c d a)
-
--- a step more that changes such bytes alone
-pub after_then : (rs : List (ℕ × ℕ)) (step : List ℕ → List ℕ → Type 0) (before mid : List ℕ → Type 0) → ((c : List ℕ) → mid c → After (AgreesOutside rs) before c)
-    → ((c d : List ℕ) → step c d → AgreesOutside rs c d) → (c : List ℕ) → After step mid c → After (AgreesOutside rs) before c
-after_then rs step before mid came within c from =
-    let since = came from.0 from.1 in
-    (since.0, since.1, outside_then rs since.0 from.0 c since.2 (within from.0 c from.2))
-
--- where a crash leaves one image alone, it is a step from the one that reads gave before
-pub after_sync : (rs : List (ℕ × ℕ)) (before mid : List ℕ → Type 0) (seen now : List ℕ) → before seen → AgreesOutside rs seen now → Only now mid → (c : List ℕ) → mid c → After (AgreesOutside rs) before c
-after_sync rs before mid seen now may a only c is = (seen, may, subst (AgreesOutside rs seen) (sym (only c is)) a)

@@ -13,7 +13,7 @@ use Rattle.disk_memory.proofs.Ranges.{holds_agrees}
 use Rattle.file_roots.specs.declared.gathering.Gathered.{Gathered}
 use Rattle.file_roots.specs.Gathering.{HasGathered, MayBeGathered, area_in}
 use Rattle.file_roots.proofs.Headers.{header_two}
-use Rattle.file_roots.proofs.Whole.{whole}
+use Rattle.file_roots.proofs.Whole.{area_of_pages}
 
 -- an image with other bytes from an offset on
 abbrev pub with_bytes : List ℕ → ℕ → List ℕ → List ℕ
@@ -34,17 +34,17 @@ module _ {K : ℕ} (s : Shape) (r : RootFields) (lawful : IsTrue (is_shape s)) (
   abbrev pub next_file : List ℕ
   next_file = with_bytes may.image (table_page s (header_page r.number) i * 4096) page
 
-  lies : table_page s (header_page r.number) i * 4096 + length page ≤ length may.image
-  lies = let p = table-page-lies s (header_page r.number) i lawful (header_two r.number) inside in omega (arith, p.inside, may.long, long)
+  next_inside : table_page s (header_page r.number) i * 4096 + length page ≤ length may.image
+  next_inside = let p = table-page-lies s (header_page r.number) i lawful (header_two r.number) inside in omega (arith, p.inside, may.long, long)
 
-  agrees : Agrees (table_page s (header_page r.number) i * 4096) (length page) may.image next_file
-  agrees = holds_agrees may.image (table_page s (header_page r.number) i * 4096) page next_file lies refl
+  next_agrees : Agrees (table_page s (header_page r.number) i * 4096) (length page) may.image next_file
+  next_agrees = holds_agrees may.image (table_page s (header_page r.number) i * 4096) page next_file next_inside refl
 
   pub next_long : file_pages s * 4096 ≤ length next_file
-  next_long = omega (arith, agrees.same_length, may.long)
+  next_long = omega (arith, next_agrees.same_length, may.long)
 
   pub next_page : page_of (table_page s (header_page r.number) i) next_file ≡ page
-  next_page = page_written may.image (table_page s (header_page r.number) i) page next_file (omega (arith, lies)) long refl
+  next_page = page_written may.image (table_page s (header_page r.number) i) page next_file (omega (arith, next_inside)) long refl
 
   pub gathered_there : HasGathered s next_file r i g
   gathered_there = record {
@@ -59,7 +59,7 @@ module _ {K : ℕ} (s : Shape) (r : RootFields) (lawful : IsTrue (is_shape s)) (
         distinct = may.gathered.area.spelled.distinct;
         pages = λ j lt.
             let first = before_in_area s (header_page r.number) j i (header_two r.number) lt in
-            page_apart (table_page s (header_page r.number) i * 4096) (length page) (table_page s (header_page r.number) j) may.image next_file (inl (omega (arith, first))) agrees ∙ may.gathered.area.spelled.pages j lt;
+            page_apart (table_page s (header_page r.number) i * 4096) (length page) (table_page s (header_page r.number) j) may.image next_file (inl (omega (arith, first))) next_agrees ∙ may.gathered.area.spelled.pages j lt;
       };
       buckets = may.gathered.area.buckets;
     };
@@ -72,7 +72,7 @@ zeros_long s = omega (arith, length-replicate (file_pages s * 4096) zero)
 
 -- an area that may have been gathered from all pages is lawful for its root
 pub area_lawful : {K : ℕ} (s : Shape) (r : RootFields) (g : Gathered K) → IsTrue (is_shape s) → IsRootOn s (header_page r.number) r → MayBeGathered s r (area_pages s) g → IsAreaOf s r (area_in g)
-area_lawful s r g lawful root may = (whole s may.image r (area_in g) lawful root may.gathered.area).lawful
+area_lawful s r g lawful root may = (area_of_pages s may.image r (area_in g) lawful root may.gathered.area).lawful
 
 -- what is lawful for a root's fields is so for the same fields
 pub same_root : (s : Shape) (r q : RootFields) (a : Area) → q ≡ r → IsRootOn s (header_page r.number) r → IsAreaOf s r a → IsRootOn s (header_page q.number) q × IsAreaOf s q a

@@ -20,11 +20,11 @@ use Rattle.file_roots.proofs.Spelled.{area_page_scale, area_page_table, few, cou
 
 module _ (s : Shape) (image : List ℕ) (r : RootFields) (lawful : IsTrue (is_shape s)) (root : IsRootOn s (header_page r.number) r) where
   -- an attribute that the root does not have has no boundaries
-  past : (i : ℕ) → length r.boundaries ≤ i → slice_index r.boundaries i ≡ 0
-  past i le = get_or_past r.boundaries i 0 le
+  none_past : (i : ℕ) → length r.boundaries ≤ i → slice_index r.boundaries i ≡ 0
+  none_past i le = get_or_past r.boundaries i 0 le
 
-  attributes : length r.boundaries ≤ 4
-  attributes = let w = within-limits s lawful in omega (arith, root.attributes, w.few_attributes)
+  few_attributes : length r.boundaries ≤ 4
+  few_attributes = let w = within-limits s lawful in omega (arith, root.attributes, w.few_attributes)
 
   -- of other scales as many boundaries stand on one page more
   other_counts : (n i : ℕ) → n < 8 → i ≢ n / 2 → min (500 * (n - 2 * i)) (slice_index r.boundaries i) ≡ min (500 * (n + 1 - 2 * i)) (slice_index r.boundaries i)
@@ -37,7 +37,7 @@ module _ (s : Shape) (image : List ℕ) (r : RootFields) (lawful : IsTrue (is_sh
   later_counts : (n i : ℕ) → 8 ≤ n → min (500 * (n - 2 * i)) (slice_index r.boundaries i) ≡ min (500 * (n + 1 - 2 * i)) (slice_index r.boundaries i)
   later_counts n i le = elim (cases_lt i 4) [
     | inl lt ↦ omega (arith, few s image r lawful root i, lt, le)
-    | inr ge ↦ omega (arith, past i (omega (arith, attributes, ge)))
+    | inr ge ↦ omega (arith, none_past i (omega (arith, few_attributes, ge)))
   ]
 
   module _ (n : ℕ) (a : Area) (spelled : SpellsUpTo s image r n a) where
@@ -91,7 +91,7 @@ module _ (s : Shape) (image : List ℕ) (r : RootFields) (lawful : IsTrue (is_sh
     pub grow_past : (xs : List ℕ) → n < 8 → length a.scales ≤ n / 2 → page_of (table_page s (header_page r.number) n) image ≡ scale_spelling r.number n xs → length xs ≡ count_on s image r lawful root n → SpellsUpTo s image r (n + 1) a
     grow_past xs le outside page count =
         let at = n / 2 in
-        let zeroth : slice_index r.boundaries at ≡ 0 = past at (omega (arith, outside, spelled.attributes)) in
+        let zeroth : slice_index r.boundaries at ≡ 0 = none_past at (omega (arith, outside, spelled.attributes)) in
         let nothing : xs ≡ [] = nil_from_length xs (omega (arith, count, zeroth)) in
         let empty : scale_of a.scales at ≡ [] = get_or_past a.scales at [] outside in
         record {

@@ -70,10 +70,3 @@ areas_apart s area other i two too apart lt =
         | inr f ↦ absurd (apart (e ∙ sym f))
       ]
     ]
-
--- a table area stays where only the other one changes
-pub area_apart : (s : Shape) (area : ℕ) (r : RootFields) (a : Area) (c d : List ℕ) → area < 2 → area ≢ header_page r.number → Agrees (table_page s area 0 * 4096) (area_pages s * 4096) c d → HasArea s c r a → HasArea s d r a
-area_apart s area r a c d two apart agrees has = record {
-  lawful = has.lawful;
-  pages = λ i lt. page_apart (table_page s area 0 * 4096) (area_pages s * 4096) (table_page s (header_page r.number) i) c d (areas_apart s area (header_page r.number) i two (header_two r.number) apart lt) agrees ∙ has.pages i lt;
-}

@@ -1,9 +1,11 @@
 pub mod Headers
+pub mod Outcomes
 pub mod Stages
 pub mod Counting
 pub mod Slices
 pub mod Areas
 pub mod Exchange
+pub mod Sections
 pub mod Ascending
 pub mod Marking
 pub mod Pieces

@@ -7,7 +7,7 @@ use Rattle.grid_types.proofs.Places.{one-of-two}
 use Rattle.grid_model.specs.Spellings.{RootFields}
 use Rattle.grid_model.specs.Lawful.{IsRootOn}
 use Rattle.grid_model.specs.Images.{header_gate, IsNewest}
-use Rattle.file_roots.specs.Damage.{IsBadPart, IsNoneOpen, AreAlike, IsFirstMisspelt, HasBadPart, IsRootDamage, OneIsDamaged}
+use Rattle.file_roots.specs.Damage.{IsBadAreaPage, IsNoneOpen, AreAlike, IsFirstMisspelt, HasBadAreaPage, IsRootDamage, OneIsDamaged}
 use Rattle.file_roots.proofs.Cutting.{none_bad}
 use Rattle.file_roots.proofs.Unique.{one_newest, one_open_at_least, none_alike, none_misspelt}
 
@@ -30,22 +30,22 @@ module _ (s : Shape) (image : List ℕ) (lawful : IsTrue (is_shape s)) where
   ]
 
   -- a page behind the first that is not spelled is not that one
-  not_later : (r : RootFields) → IsRootOn s (header_page r.number) r → (i j : ℕ) → i < j → IsBadPart s image r i → IsBadPart s image r j → ⊥
+  not_later : (r : RootFields) → IsRootOn s (header_page r.number) r → (i j : ℕ) → i < j → IsBadAreaPage s image r i → IsBadAreaPage s image r j → ⊥
   not_later r root i j lt x y =
       let more = none_bad s image r y.before lawful root j (omega (arith, y.inside)) y.spelled i lt in
       x.no_more more.0 more.1
 
-  one_part : (r : RootFields) → IsRootOn s (header_page r.number) r → (i j : ℕ) → IsBadPart s image r i → IsBadPart s image r j → i ≡ j
-  one_part r root i j x y = elim (cases_lt i j) [
+  one_index : (r : RootFields) → IsRootOn s (header_page r.number) r → (i j : ℕ) → IsBadAreaPage s image r i → IsBadAreaPage s image r j → i ≡ j
+  one_index r root i j x y = elim (cases_lt i j) [
     | inl lt ↦ absurd (not_later r root i j lt x y)
     | inr ge ↦ elim (cases_lt j i) [ inl lt ↦ absurd (not_later r root j i lt y x) | inr le ↦ omega (arith, ge, le) ]
   ]
 
-  one_bad : (r q : RootFields) (i j : ℕ) → IsNewest s image r → IsNewest s image q → HasBadPart s image r i → HasBadPart s image q j → i ≡ j
+  one_bad : (r q : RootFields) (i j : ℕ) → IsNewest s image r → IsNewest s image q → HasBadAreaPage s image r i → HasBadAreaPage s image q j → i ≡ j
   one_bad r q i j newest other x y =
       let same : q ≡ r = one_newest s image lawful q r other newest in
-      let z : HasBadPart s image r j = subst (λ f. HasBadPart s image f j) same y in
-      x.page_is ∙ ap (table_page s (header_page r.number)) (one_part r newest.opens.lawful x.part z.part x.bad z.bad) ∙ sym z.page_is
+      let z : HasBadAreaPage s image r j = subst (λ f. HasBadAreaPage s image f j) same y in
+      x.page_is ∙ ap (table_page s (header_page r.number)) (one_index r newest.opens.lawful x.index z.index x.bad z.bad) ∙ sym z.page_is
 
   pub one_damage : (p q : ℕ) → IsRootDamage s image p → IsRootDamage s image q → p ≡ q
   one_damage p q (inl x) (inl y) = x.page_is ∙ sym y.page_is

@@ -1,21 +1,17 @@
 -- Lists that grow by pieces of one length.
-use Rattle.std.proofs.Common.{◌≡◌, ◌<◌, ◌≤◌, inl, inr, ◌+◌, ◌-◌, ◌*◌, ◌++◌, ℕ, zero, suc, List, [], ◌∷◌, length, take, drop, slice_index, refl, sym, ap, ◌∙◌, subst, arith, length-append}
+use Rattle.std.proofs.Common.{◌≡◌, ◌<◌, ◌≤◌, inl, inr, ◌+◌, ◌-◌, ◌*◌, ◌++◌, ℕ, zero, suc, List, [], length, take, drop, slice_index, refl, sym, ap, ◌∙◌, subst, arith, length-append}
 use Rattle.std.specs.Prelude.{min}
 use Rattle.std.proofs.Math.ListN.{drop_of_length-le}
 use Rattle.std.proofs.lemmas.Bool.{cases_lt}
-use Rattle.std.proofs.lemmas.List.{take_all, drop_at, take-append-le, drop-append-le, append-nil, length-take, length-drop, get_or-take, get_or-drop, get_or_past}
+use Rattle.std.proofs.lemmas.List.{nil_from_length, take_all, drop_at, take-append-le, drop-append-le, append-nil, length-take, length-drop, get_or-take, get_or-drop, get_or_past}
 use Rattle.disk_trait.proofs.Pieces.{take_split}
 use Rattle.grid_model.specs.Images.{half_of_scale}
 use Rattle.file_roots.proofs.Slices.{first_half, second_half}
 
-none : (xs : List ℕ) → length xs ≡ 0 → xs ≡ []
-none [] e = refl
-none (x ∷ xs) e = absurd (omega (arith, e))
-
 -- an earlier piece stays where the list grows
 pub piece_old : (m at from t : ℕ) (old xs : List ℕ) → length old ≡ min from t → length xs ≡ min m (t - from) → at + m ≤ from → take m (drop at (old ++ xs)) ≡ take m (drop at old)
 piece_old m at from t old xs lo lx le = elim (cases_lt t from) [
-  | inl short ↦ ap (λ ys. take m (drop at ys)) (ap (λ ys. old ++ ys) (none xs (omega (arith, lx, short))) ∙ append-nil old)
+  | inl short ↦ ap (λ ys. take m (drop at ys)) (ap (λ ys. old ++ ys) (nil_from_length xs (omega (arith, lx, short))) ∙ append-nil old)
   | inr long ↦
       let whole : length old ≡ from = omega (arith, lo, long) in
       ap (take m) (drop-append-le at old xs (omega (arith, whole, le))) ∙ take-append-le m (drop at old) xs (omega (arith, length-drop at old, whole, le))
@@ -25,7 +21,7 @@ piece_old m at from t old xs lo lx le = elim (cases_lt t from) [
 pub piece_new : (m from t : ℕ) (old xs : List ℕ) → length old ≡ min from t → length xs ≡ min m (t - from) → take m (drop from (old ++ xs)) ≡ xs
 piece_new m from t old xs lo lx = elim (cases_lt t from) [
   | inl short ↦
-      let empty = none xs (omega (arith, lx, short)) in
+      let empty = nil_from_length xs (omega (arith, lx, short)) in
       ap (take m) (drop_of_length-le (old ++ xs) {i = from} (omega (arith, length-append old xs, lo, lx, short))) ∙ take_all m [] (omega arith) ∙ sym empty
   | inr long ↦ ap (take m) (drop_at old xs from (omega (arith, lo, long))) ∙ take_all m xs (omega (arith, lx))
 ]

@@ -1,8 +1,8 @@
 -- What the pages of a table area spell.
-use Rattle.std.proofs.Common.{◌≡◌, ◌<◌, ◌≤◌, inl, inr, ◌+◌, ◌-◌, ◌*◌, ◌/◌, ◌%◌, ◌++◌, ◌^◌, ℕ, zero, suc, cond, not, eqb, true, List, [], ◌∷◌, length, take, drop, slice_index, IsTrue, codes, lit<, ap, ◌∙◌, subst, arith, length-append}
+use Rattle.std.proofs.Common.{◌≡◌, ◌<◌, ◌≤◌, inl, inr, ◌+◌, ◌-◌, ◌*◌, ◌/◌, ◌%◌, ◌^◌, ℕ, zero, suc, cond, not, eqb, true, List, [], ◌∷◌, length, take, drop, slice_index, IsTrue, lit<, ap, ◌∙◌, subst, arith}
 use Rattle.std.specs.Prelude.{min, All}
 use Rattle.std.proofs.lemmas.Bool.{cases_lt, cases_eq, lt-ltb, le-ltb, ne_eqb, eq-eqb}
-use Rattle.std.proofs.lemmas.List.{get_or_past, get_or-append-add, get_or_append_left, length-drop, length-take}
+use Rattle.std.proofs.lemmas.List.{get_or_past, length-drop, length-take}
 use Rattle.std.proofs.lemmas.List.Elements.{All-get_or}
 use Rattle.grid_types.specs.declared.shape.Shape.{Shape}
 use Rattle.grid_types.specs.Pages.{page_of}
@@ -14,9 +14,8 @@ use Rattle.grid_model.specs.Lawful.{IsRootOn, Area, pages_named, nowhere}
 use Rattle.grid_model.specs.Images.{area_spelling, half_of_scale}
 use Rattle.grid_model.proofs.ScaleLaws.{tops, goes-on}
 use Rattle.root_pages.specs.Areas.{SpellsScale, SpellsList, SpellsTable}
-use Rattle.root_pages.proofs.KindsOfPages.{scales, lists, tables, entries_there, one_list_of}
 use Rattle.file_roots.specs.Damage.{SpellsUpTo}
-use Rattle.file_roots.specs.Gathering.{AreOn}
+use Rattle.file_roots.proofs.Marking.{all_front, all_rest}
 use Rattle.file_roots.proofs.Pieces.{half_piece, in_piece}
 
 -- the page of a scale, of the list and of the table
@@ -45,28 +44,22 @@ table_fits most [] le all i = omega arith
 table_fits most (x ∷ xs) le all i = elim (cases_eq x 4294967295) [
   | inl same ↦
       let named : pages_named (x ∷ xs) ≡ pages_named xs = ap (λ t. cond (not t) (x ∷ pages_named xs) (pages_named xs)) (eq-eqb x 4294967295 same) in
-      by-place i (omega (arith, same)) (table_fits most xs le (subst (All (λ p. p < most)) named all))
+      first_or_rest i (omega (arith, same)) (table_fits most xs le (subst (All (λ p. p < most)) named all))
   | inr other ↦
       let named : pages_named (x ∷ xs) ≡ x ∷ pages_named xs = ap (λ t. cond (not t) (x ∷ pages_named xs) (pages_named xs)) (ne_eqb x 4294967295 other) in
       let first : All (λ p. p < most) (x ∷ pages_named xs) = subst (All (λ p. p < most)) named all in
-      by-place i (omega (arith, first 0 0 (omega arith), le)) (table_fits most xs le (λ k d lt. first (suc k) d (omega (arith, lt))))
+      first_or_rest i (omega (arith, first 0 0 (omega arith), le)) (table_fits most xs le (λ k d lt. first (suc k) d (omega (arith, lt))))
 ]
   where
-    by-place : (i : ℕ) → x < 2 ^ 32 → ((k : ℕ) → slice_index xs k < 2 ^ 32) → slice_index (x ∷ xs) i < 2 ^ 32
-    by-place zero here rest = here
-    by-place (suc k) here rest = rest k
+    first_or_rest : (i : ℕ) → x < 2 ^ 32 → ((k : ℕ) → slice_index xs k < 2 ^ 32) → slice_index (x ∷ xs) i < 2 ^ 32
+    first_or_rest zero here rest = here
+    first_or_rest (suc k) here rest = rest k
 
 pub list_fits : (most : ℕ) (xs : List ℕ) → most ≤ 65536 → All (λ p. p < most) xs → (i : ℕ) → slice_index xs i < 2 ^ 32
 list_fits most xs le all i = elim (cases_lt i (length xs)) [
   | inl lt ↦ omega (arith, all i 0 lt, le)
   | inr ge ↦ omega (arith, get_or_past xs i 0 ge)
 ]
-
-pub all_front : (P : ℕ → Type 0) (xs ys : List ℕ) → All P (xs ++ ys) → All P xs
-all_front P xs ys all k d lt = subst P (get_or_append_left xs ys d k lt) (all k d (omega (arith, length-append xs ys, lt)))
-
-pub all_rest : (P : ℕ → Type 0) (xs ys : List ℕ) → All P (xs ++ ys) → All P ys
-all_rest P xs ys all k d lt = subst P (get_or-append-add xs ys k d) (all (length xs + k) d (omega (arith, length-append xs ys, lt)))
 
 module _ (s : Shape) (image : List ℕ) (r : RootFields) (lawful : IsTrue (is_shape s)) (root : IsRootOn s (header_page r.number) r) where
   -- no scale has more than a thousand boundaries
@@ -126,23 +119,3 @@ module _ (s : Shape) (image : List ℕ) (r : RootFields) (lawful : IsTrue (is_sh
 
     pub table_count : (i : ℕ) → i < n → 9 ≤ i → length (take 1000 (drop (1000 * (i - 9)) a.table)) ≡ min 1000 (s.pages - 1000 * (i - 9))
     table_count i lt ge = omega (arith, length-take 1000 (drop (1000 * (i - 9)) a.table), length-drop (1000 * (i - 9)) a.table, spelled.numbers, lt, ge)
-
--- entries that are spelled stand on their page
-pub scale_on : (root index : ℕ) (page xs : List ℕ) → SpellsScale root index page xs → AreOn 8 page xs
-scale_on root index page xs s = (entries_there 8 (codes "GFS1") scale_spelling 500 64 scales root index page xs s).each
-
-pub list_on : (root index : ℕ) (page xs : List ℕ) → SpellsList root index page xs → AreOn 4 page xs
-list_on root index page xs s = (entries_there 4 (codes "GFL1") list_spelling 1000 32 lists root index page xs s).each
-
-pub table_on : (root index : ℕ) (page xs : List ℕ) → SpellsTable root index page xs → AreOn 4 page xs
-table_on root index page xs s = (entries_there 4 (codes "GFT1") bucket_table_spelling 1000 32 tables root index page xs s).each
-
--- and are the only ones
-pub one_scale : (root index : ℕ) (page xs ys : List ℕ) → SpellsScale root index page xs → SpellsScale root index page ys → xs ≡ ys
-one_scale root index page xs ys s t = (one_list_of 8 (codes "GFS1") scale_spelling 500 64 scales root root index index page xs ys s t).entries_are
-
-pub one_list : (root index : ℕ) (page xs ys : List ℕ) → SpellsList root index page xs → SpellsList root index page ys → xs ≡ ys
-one_list root index page xs ys s t = (one_list_of 4 (codes "GFL1") list_spelling 1000 32 lists root root index index page xs ys s t).entries_are
-
-pub one_table : (root index : ℕ) (page xs ys : List ℕ) → SpellsTable root index page xs → SpellsTable root index page ys → xs ≡ ys
-one_table root index page xs ys s t = (one_list_of 4 (codes "GFT1") bucket_table_spelling 1000 32 tables root root index index page xs ys s t).entries_are

@@ -14,13 +14,14 @@ use Rattle.grid_model.specs.Lawful.{IsRootOn, Area}
 use Rattle.grid_model.specs.Images.{header_gate, IsOpenOver, IsNewest, HasArea}
 use Rattle.root_pages.proofs.RootPlaces.{number_there, fields_there, on_header}
 use Rattle.root_pages.proofs.Roots.{few_attributes, in_range, root_again}
-use Rattle.file_roots.specs.Damage.{SpellsUpTo, AreAlike, IsFirstMisspelt, HasBadPart, IsRootDamage}
+use Rattle.file_roots.specs.Damage.{SpellsUpTo, AreAlike, IsFirstMisspelt, HasBadAreaPage, IsRootDamage}
 use Rattle.file_roots.specs.Roots.{WholeRoot}
-use Rattle.file_roots.specs.Replacing.{IsWhole, IsOneOf, IsAmong, NewestIsAmong}
+use Rattle.file_roots.specs.Replacing.{IsNewestWhole, IsOneOf, IsAmong, NewestIsAmong}
 use Rattle.file_roots.proofs.Pieces.{piece_last}
-use Rattle.file_roots.proofs.Spelled.{few, scale_there, list_there, one_scale, one_list}
+use Rattle.root_pages.proofs.KindsOfPages.{one_scale_spelled, one_list_spelled}
+use Rattle.file_roots.proofs.Spelled.{few, scale_there, list_there}
 use Rattle.file_roots.proofs.Agreeing.{one_table_of}
-use Rattle.file_roots.proofs.Whole.{by_pages}
+use Rattle.file_roots.proofs.Whole.{pages_of_area}
 use Rattle.file_roots.proofs.Cutting.{none_bad}
 
 module _ (s : Shape) (image : List ℕ) (lawful : IsTrue (is_shape s)) where
@@ -32,8 +33,8 @@ module _ (s : Shape) (image : List ℕ) (lawful : IsTrue (is_shape s)) where
       (fields_there 72 page q (drop 128 page) (on_header page q y.spelled) s.k (few_attributes s s.k lawful refl) (in_range s header s.k q lawful refl y.lawful)) y.lawful.attributes
 
   -- another newest root would have a lower number
-  lower : (r q : RootFields) → IsNewest s image r → IsNewest s image q → header_page (r.number + 1) ≡ header_page q.number → q.number < r.number
-  lower r q x y e = elim x.other [
+  second_is_lower : (r q : RootFields) → IsNewest s image r → IsNewest s image q → header_page (r.number + 1) ≡ header_page q.number → q.number < r.number
+  second_is_lower r q x y e = elim x.other [
     | inl shut ↦ absurd (shut (ap (header_gate image) e ∙ y.opens.gate))
     | inr older ↦
         let same = one_open (header_page q.number) older.0 q (subst (λ h. IsOpenOver s image h older.0) e older.1) y.opens in
@@ -47,12 +48,12 @@ module _ (s : Shape) (image : List ℕ) (lawful : IsTrue (is_shape s)) where
     | inr other ↦
         let up : header_page (r.number + 1) ≡ header_page q.number = grind (arith, other) in
         let down : header_page (q.number + 1) ≡ header_page r.number = grind (arith, other) in
-        absurd (omega (arith, lower r q x y up, lower q r y x down))
+        absurd (omega (arith, second_is_lower r q x y up, second_is_lower q r y x down))
   ]
 
   module _ (r : RootFields) (root : IsRootOn s (header_page r.number) r) (a b : Area) (x : SpellsUpTo s image r (area_pages s) a) (y : SpellsUpTo s image r (area_pages s) b) where
     half_same : (i : ℕ) → i < 8 → take 500 (drop (500 * (i % 2)) (scale_of a.scales (i / 2))) ≡ take 500 (drop (500 * (i % 2)) (scale_of b.scales (i / 2)))
-    half_same i lt = one_scale r.number i (page_of (table_page s (header_page r.number) i) image) _ _
+    half_same i lt = one_scale_spelled r.number i (page_of (table_page s (header_page r.number) i) image) _ _
         (scale_there s image r lawful root (area_pages s) a x i (omega (arith, lt)) lt) (scale_there s image r lawful root (area_pages s) b y i (omega (arith, lt)) lt)
 
     scale_same : (i : ℕ) → i < 4 → scale_of a.scales i ≡ scale_of b.scales i
@@ -78,14 +79,14 @@ module _ (s : Shape) (image : List ℕ) (lawful : IsTrue (is_shape s)) where
     pub one_area : a ≡ b
     one_area =
         let scales = scales_same in
-        let parts = one_list r.number 8 (page_of (table_page s (header_page r.number) 8) image) _ _ (list_there s image r lawful root (area_pages s) a x (omega arith)) (list_there s image r lawful root (area_pages s) b y (omega arith)) in
+        let parts = one_list_spelled r.number 8 (page_of (table_page s (header_page r.number) 8) image) _ _ (list_there s image r lawful root (area_pages s) a x (omega arith)) (list_there s image r lawful root (area_pages s) b y (omega arith)) in
         let table = one_table_of s image r lawful root (area_pages s) a b (omega arith) x y in
         λ i. record { scales = scales i; parts = parts i; table = table i }
 
   module _ (r : RootFields) (newest : IsNewest s image r) where
     -- a header page that is open is open over a root
-    over : (header : ℕ) → header < 2 → header_gate image header ≡ 1 → (q : RootFields) × IsOpenOver s image header q
-    over header two gate = elim (cases_eq (header_page r.number) header) [
+    open_over_some : (header : ℕ) → header < 2 → header_gate image header ≡ 1 → (q : RootFields) × IsOpenOver s image header q
+    open_over_some header two gate = elim (cases_eq (header_page r.number) header) [
       | inl same ↦ (r, subst (λ h. IsOpenOver s image h r) same newest.opens)
       | inr other ↦
           let next : header_page (r.number + 1) ≡ header = grind (arith, other, two) in
@@ -96,8 +97,8 @@ module _ (s : Shape) (image : List ℕ) (lawful : IsTrue (is_shape s)) where
     ]
 
     -- its root stands there with its number
-    stands : (header : ℕ) (q : RootFields) → IsOpenOver s image header q → (q.number ≡ number 8 (drop 72 (page_of header image))) × (q.number % 2 ≡ header)
-    stands header q opens =
+    number_and_parity : (header : ℕ) (q : RootFields) → IsOpenOver s image header q → (q.number ≡ number 8 (drop 72 (page_of header image))) × (q.number % 2 ≡ header)
+    number_and_parity header q opens =
         let page = page_of header image in
         (number_there 72 page q (drop 128 page) (on_header page q opens.spelled) (omega (arith, opens.lawful.number)), opens.lawful.parity)
 
@@ -109,14 +110,14 @@ module _ (s : Shape) (image : List ℕ) (lawful : IsTrue (is_shape s)) where
 
     pub none_alike : (p : ℕ) → AreAlike image p → ⊥
     none_alike p alike =
-        let z = over 0 (omega arith) alike.zeroth in
-        let f = over 1 (omega arith) alike.first in
-        let x = stands 0 z.0 z.1 in
-        let y = stands 1 f.0 f.1 in
+        let z = open_over_some 0 (omega arith) alike.zeroth in
+        let f = open_over_some 1 (omega arith) alike.first in
+        let x = number_and_parity 0 z.0 z.1 in
+        let y = number_and_parity 1 f.0 f.1 in
         absurd (omega (arith, x.0, y.0, x.1, y.1, alike.numbers))
 
     pub none_misspelt : (p : ℕ) → IsFirstMisspelt s image p → ⊥
-    none_misspelt p bad = let o = over p bad.two bad.misspelt.gate in bad.misspelt.none o.0 o.1
+    none_misspelt p bad = let o = open_over_some p bad.two bad.misspelt.gate in bad.misspelt.none o.0 o.1
 
     -- the roots of an image with a newest root and its table area are not damaged
     pub undamaged : (a : Area) → HasArea s image r a → (p : ℕ) → IsRootDamage s image p → ⊥
@@ -125,33 +126,34 @@ module _ (s : Shape) (image : List ℕ) (lawful : IsTrue (is_shape s)) where
     undamaged a area p (inr (inr (inl bad))) = none_misspelt p bad
     undamaged a area p (inr (inr (inr found))) =
         let same : found.0 ≡ r = one_newest found.0 r found.1 newest in
-        let bad : HasBadPart s image r p = subst (λ q. HasBadPart s image q p) same found.2 in
-        let more = none_bad s image r a lawful newest.opens.lawful (area_pages s) (omega arith) (by_pages s image r a lawful newest.opens.lawful area) bad.part bad.bad.inside in
+        let bad : HasBadAreaPage s image r p = subst (λ q. HasBadAreaPage s image q p) same found.2 in
+        let more = none_bad s image r a lawful newest.opens.lawful (area_pages s) (omega arith) (pages_of_area s image r a lawful newest.opens.lawful area) bad.index bad.bad.inside in
         bad.bad.no_more more.0 more.1
 
--- what is whole is the newest root and its table area
-pub only_whole : (s : Shape) (image : List ℕ) (r q : RootFields) (a b : Area) → IsTrue (is_shape s) → IsNewest s image r → HasArea s image r a → IsWhole s q b image → (q ≡ r) × (b ≡ a)
-only_whole s image r q a b lawful newest area whole =
-    let same : q ≡ r = one_newest s image lawful q r whole.newest newest in
-    let root = newest.opens.lawful in
-    let other : HasArea s image r b = subst (λ f. HasArea s image f b) same whole.area in
-    (same, one_area s image lawful r root b a (by_pages s image r b lawful root other).spelled (by_pages s image r a lawful root area).spelled)
+-- an image has one newest root with its whole table area
+pub one_newest_whole : (s : Shape) (image : List ℕ) (w v : WholeRoot) → IsTrue (is_shape s) → IsNewestWhole s w image → IsNewestWhole s v image → w ≡ v
+one_newest_whole s image w v lawful x y =
+    let same : w.fields ≡ v.fields = one_newest s image lawful w.fields v.fields x.newest y.newest in
+    let root = y.newest.opens.lawful in
+    let other : HasArea s image v.fields w.area = subst (λ f. HasArea s image f w.area) same x.area in
+    let area : w.area ≡ v.area = one_area s image lawful v.fields root w.area v.area (pages_of_area s image v.fields w.area lawful root other).spelled (pages_of_area s image v.fields v.area lawful root y.area).spelled in
+    λ i. record { fields = same i; area = area i }
 
 -- the newest root is one of those of which one is the newest
 module _ (s : Shape) (image : List ℕ) (lawful : IsTrue (is_shape s)) (r : RootFields) (newest : IsNewest s image r) where
   -- a whole root is the newest with its area
-  same_whole : (w : WholeRoot) → IsWhole s w.fields w.area image → HasArea s image r w.area × (record { fields = r; area = w.area } ≡ w)
+  same_whole : (w : WholeRoot) → IsNewestWhole s w image → HasArea s image r w.area × (record { fields = r; area = w.area } ≡ w)
   same_whole w whole =
       let same : w.fields ≡ r = one_newest s image lawful w.fields r whole.newest newest in
       (subst (λ f. HasArea s image f w.area) same whole.area, λ i. record { fields = sym same i; area = w.area })
 
-  among : (old : Option WholeRoot) (others : List WholeRoot) → IsOneOf s old others image → (a : Area) × HasArea s image r a × IsAmong old others (record { fields = r; area = a })
-  among None [] none = absurd (one_open_at_least s image lawful r newest none.zeroth none.first)
-  among (Some old) [] whole = let is = same_whole old whole in (old.area, is.0, is.1)
-  among None (w ∷ ws) (inl whole) = let is = same_whole w whole in (w.area, is.0, inl is.1)
-  among (Some old) (w ∷ ws) (inl whole) = let is = same_whole w whole in (w.area, is.0, inl is.1)
-  among None (w ∷ ws) (inr more) = let is = among None ws more in (is.0, is.1, inr is.2)
-  among (Some old) (w ∷ ws) (inr more) = let is = among (Some old) ws more in (is.0, is.1, inr is.2)
+  newest_among : (old : Option WholeRoot) (others : List WholeRoot) → IsOneOf s old others image → (a : Area) × HasArea s image r a × IsAmong old others (record { fields = r; area = a })
+  newest_among None [] none = absurd (one_open_at_least s image lawful r newest none.zeroth none.first)
+  newest_among (Some old) [] whole = let is = same_whole old whole in (old.area, is.0, is.1)
+  newest_among None (w ∷ ws) (inl whole) = let is = same_whole w whole in (w.area, is.0, inl is.1)
+  newest_among (Some old) (w ∷ ws) (inl whole) = let is = same_whole w whole in (w.area, is.0, inl is.1)
+  newest_among None (w ∷ ws) (inr more) = let is = newest_among None ws more in (is.0, is.1, inr is.2)
+  newest_among (Some old) (w ∷ ws) (inr more) = let is = newest_among (Some old) ws more in (is.0, is.1, inr is.2)
 
 pub newest_is_among : NewestIsAmong
-newest_is_among s old others image r lawful one newest = among s image lawful r newest old others one
+newest_is_among s old others image r lawful one newest = newest_among s image lawful r newest old others one

@@ -1,33 +1,27 @@
 -- What it means that a page of a table area is taken, or refused.
-use Rattle.std.proofs.Common.{◌≡◌, ◌<◌, ◌≤◌, inl, inr, ◌+◌, ◌-◌, ◌*◌, ◌++◌, ◌==◌, not, ℕ, zero, suc, List, map, length, replicate, get_or, Result, Ok, Err, IsTrue, refl, sym, ap, ◌∙◌, subst, arith, append_assoc}
-use Rattle.std.specs.Prelude.{min, IfOk, IsErrOf}
+use Rattle.std.proofs.Common.{◌≡◌, ◌<◌, ◌≤◌, inl, inr, ◌+◌, ◌-◌, ◌*◌, ◌++◌, ◌==◌, not, ℕ, List, map, length, replicate, get_or, Bool, IsTrue, sym, ap, ◌∙◌, subst, arith, append_assoc}
+use Rattle.std.specs.Prelude.{min, All}
 use Rattle.std.proofs.lemmas.Bool.{cases_lt}
-use Rattle.std.proofs.lemmas.List.{get_or-map, get_or_past, nil_from_length, append-nil}
-use Rattle.std.proofs.lemmas.List.Elements.{All-get_or, filter-append}
+use Rattle.std.proofs.lemmas.List.{get_or-replicate, get_or-map, get_or_past, nil_from_length, append-nil}
+use Rattle.std.proofs.lemmas.List.Elements.{All-get_or, All-append, filter-append}
 use Rattle.grid_types.specs.declared.shape.Shape.{Shape}
 use Rattle.grid_types.specs.declared.refusal.Refusal.{Refusal}
 use Rattle.grid_types.specs.declared.refusal.Refusal.TheVariants.{Damaged}
 use Rattle.grid_types.specs.Pages.{page_of}
 use Rattle.grid_types.specs.Shapes.{is_shape, area_pages, header_page, table_page}
 use Rattle.grid_types.proofs.Places.{within-limits}
+use Rattle.grid_model.specs.Lists.{AreDistinct}
 use Rattle.grid_model.specs.Scales.{scale_of}
 use Rattle.grid_model.specs.Spellings.{RootFields}
 use Rattle.grid_model.specs.Lawful.{IsRootOn, Area, pages_named, nowhere}
 use Rattle.grid_model.specs.Images.{IsNewest, HasArea}
-use Rattle.file_roots.specs.Replacing.{IsWhole}
+use Rattle.file_roots.specs.Replacing.{IsNewestWhole}
 use Rattle.root_pages.specs.Areas.{IsScalePage, IsListPage, IsTablePage}
 use Rattle.linear_scales.specs.Limited.{LimitedScale, limits_of}
 use Rattle.file_roots.specs.Damage.{SpellsUpTo}
+use Rattle.file_roots.specs.Gathering.{AreMarked}
+use Rattle.file_roots.proofs.Marking.{all_rest}
 use Rattle.file_roots.proofs.Spelled.{count_on, scale_there, scale_count, list_there, table_there, table_count}
-
--- facts of what a result holds
-pub one_ok : {T E : Type 0} {P Z : T → Type 0} (r : Result T E) → IfOk r P → ((t : T) → P t → Z t) → IfOk r Z
-one_ok (Ok t) p f = f t p
-one_ok (Err e) p f = tt
-
-pub three_ok : {T E : Type 0} {P Q S Z : T → Type 0} (r : Result T E) → IfOk r P → IfOk r Q → IfOk r S → ((t : T) → P t → Q t → S t → Z t) → IfOk r Z
-three_ok (Ok t) p q s f = f t p q s
-three_ok (Err e) p q s f = tt
 
 module _ (s : Shape) (image : List ℕ) (r : RootFields) (lawful : IsTrue (is_shape s)) (root : IsRootOn s (header_page r.number) r) (n : ℕ) (a : Area) (further : SpellsUpTo s image r (n + 1) a) where
   -- a page that is spelled is judged so
@@ -54,14 +48,9 @@ module _ (s : Shape) (image : List ℕ) (r : RootFields) (lawful : IsTrue (is_sh
     | inr ge ↦ omega (arith, further.boundaries i, get_or_past r.boundaries i 0 ge)
   ]
 
-replicated : (n x i : ℕ) → i < n → get_or (replicate n x) i 0 ≡ x
-replicated zero x i lt = absurd (omega (arith, lt))
-replicated (suc n) x zero lt = refl
-replicated (suc n) x (suc i) lt = replicated n x i (omega (arith, lt))
-
 -- the limit of each scale
 pub limit_at : (K b : ℕ) (ss : List LimitedScale) (i : ℕ) (d : LimitedScale) → length ss ≡ K → limits_of ss ≡ replicate K b → i < K → (get_or ss i d).limit ≡ b
-limit_at K b ss i d count limits lt = sym (get_or-map (λ t. t.limit) ss i d 0 (omega (arith, count, lt))) ∙ ap (λ ns. get_or ns i 0) limits ∙ replicated K b i lt
+limit_at K b ss i d count limits lt = sym (get_or-map (λ t. t.limit) ss i d 0 (omega (arith, count, lt))) ∙ ap (λ ns. get_or ns i 0) limits ∙ get_or-replicate K i b 0 lt
 
 -- what the list names behind what was named before: nothing
 pub list_names : (parts table xs : List ℕ) → length table ≡ 0 → (parts ++ xs) ++ pages_named table ≡ (parts ++ pages_named table) ++ xs
@@ -73,16 +62,26 @@ list_names parts table xs none =
 pub table_names : (parts table xs : List ℕ) → parts ++ pages_named (table ++ xs) ≡ (parts ++ pages_named table) ++ pages_named xs
 table_names parts table xs = ap (λ ys. parts ++ ys) (filter-append (λ p. not (p == nowhere)) table xs) ∙ sym (append_assoc parts (pages_named table) (pages_named xs))
 
--- the page that a refusal names
-pub named_page : {T : Type 0} (p q : ℕ) (refusal : Refusal) → refusal ≡ Damaged p → IsErrOf {T = T} {E = Refusal} (Err refusal) (Damaged q) → p ≡ q
-named_page p q refusal is e = cc (is, e)
+-- data pages are those of the file, and marked
+pub record AreTaken (s : Shape) (marks : List Bool) (pages : List ℕ) : Type 0 where
+  pub named : All (λ p. p < s.pages) pages
+  pub marked : AreMarked marks pages
 
--- a refusal is the same in whatever result
-pub passed_on : {T U : Type 0} (refusal e : Refusal) → IsErrOf {T = T} {E = Refusal} (Err refusal) e → IsErrOf {T = U} {E = Refusal} (Err refusal) e
-passed_on {T} {U} refusal e is =
-    let same : refusal ≡ e = cc (is) in
-    let wrap : Refusal → Result U Refusal = λ x. Err x in
-    ap wrap same
+-- with more behind those that were named before
+pub taken_more : (s : Shape) (marks : List Bool) (count : ℕ) (before more now : List ℕ) → count ≡ s.pages → now ≡ before ++ more → All (λ p. p < s.pages) before → All (λ p. p < count) more → AreMarked marks (before ++ more) → AreTaken s marks now
+taken_more s marks count before more now all is named inside marked = record {
+  named = subst (All (λ p. p < s.pages)) (sym is) (All-append (λ p. p < s.pages) before more named (subst (λ n. All (λ p. p < n) more) all inside));
+  marked = subst (AreMarked marks) (sym is) marked;
+}
+
+-- of data pages of the file that are named once, those behind some are so
+pub rest_named : (s : Shape) (count : ℕ) (before more now : List ℕ) → count ≡ s.pages → now ≡ before ++ more → All (λ p. p < s.pages) now → AreDistinct now → All (λ p. p < count) more × AreDistinct (before ++ more)
+rest_named s count before more now all is named distinct =
+    (subst (λ n. All (λ p. p < n) more) (sym all) (all_rest (λ p. p < s.pages) before more (subst (All (λ p. p < s.pages)) is named)), subst AreDistinct is distinct)
+
+-- the page that a refusal names
+pub named_page : (p q : ℕ) (refusal : Refusal) → refusal ≡ Damaged p → refusal ≡ Damaged q → p ≡ q
+named_page p q refusal is e = cc (is, e)
 
 -- the fields of a root whose lists have the root's lengths are the root's
 pub fields_same : (r : RootFields) (scales : List (List ℕ)) (parts table : List ℕ) → map length scales ≡ r.boundaries → length parts ≡ r.parts → length (pages_named table) ≡ r.buckets
@@ -90,5 +89,5 @@ pub fields_same : (r : RootFields) (scales : List (List ℕ)) (parts table : Lis
 fields_same r scales parts table b p n = λ i. record { number = r.number; session = r.session; front = r.front; records = r.records; boundaries = b i; parts = p i; buckets = n i }
 
 -- the newest root with its table area
-pub whole_root : (s : Shape) (image : List ℕ) (r q : RootFields) (a : Area) → q ≡ r → IsNewest s image r → HasArea s image r a → IsWhole s q a image
+pub whole_root : (s : Shape) (image : List ℕ) (r q : RootFields) (a : Area) → q ≡ r → IsNewest s image r → HasArea s image r a → IsNewestWhole s (record { fields = q; area = a }) image
 whole_root s image r q a same newest area = record { newest = subst (IsNewest s image) (sym same) newest; area = subst (λ f. HasArea s image f a) (sym same) area }

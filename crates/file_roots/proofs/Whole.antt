@@ -15,24 +15,24 @@ use Rattle.file_roots.specs.Damage.{HasAreaUpTo, AreAllSpelled}
 use Rattle.file_roots.proofs.Spelled.{few}
 
 module _ (s : Shape) (image : List ℕ) (r : RootFields) (a : Area) (lawful : IsTrue (is_shape s)) (root : IsRootOn s (header_page r.number) r) where
-  abbrev all : ℕ
-  all = area_pages s
+  abbrev all_pages : ℕ
+  all_pages = area_pages s
 
-  -- all boundaries of an attribute stand on all pages
-  all_boundaries : (i : ℕ) → min (500 * (all - 2 * i)) (slice_index r.boundaries i) ≡ slice_index r.boundaries i
+  -- all_pages boundaries of an attribute stand on all_pages pages
+  all_boundaries : (i : ℕ) → min (500 * (all_pages - 2 * i)) (slice_index r.boundaries i) ≡ slice_index r.boundaries i
   all_boundaries i = elim (cases_lt i (length r.boundaries)) [
     | inl lt ↦ let w = within-limits s lawful in omega (arith, few s image r lawful root i, lt, root.attributes, w.few_attributes)
     | inr ge ↦ omega (arith, get_or_past r.boundaries i 0 ge)
   ]
 
-  all_parts : min (1000 * (all - 8)) r.parts ≡ r.parts
+  all_parts : min (1000 * (all_pages - 8)) r.parts ≡ r.parts
   all_parts = let w = within-limits s lawful in omega (arith, root.parts, root.few_cells, w.few_cells, w.some_pages)
 
-  all_numbers : min (1000 * (all - 9)) s.pages ≡ s.pages
+  all_numbers : min (1000 * (all_pages - 9)) s.pages ≡ s.pages
   all_numbers = omega arith
 
-  pub whole : HasAreaUpTo s image r all a → HasArea s image r a
-  whole h =
+  pub area_of_pages : HasAreaUpTo s image r all_pages a → HasArea s image r a
+  area_of_pages h =
       let count : length a.scales ≡ length r.boundaries = h.spelled.attributes in
       record {
         lawful = record {
@@ -49,8 +49,8 @@ module _ (s : Shape) (image : List ℕ) (r : RootFields) (a : Area) (lawful : Is
         pages = h.spelled.pages;
       }
 
-  pub by_pages : HasArea s image r a → HasAreaUpTo s image r all a
-  by_pages h =
+  pub pages_of_area : HasArea s image r a → HasAreaUpTo s image r all_pages a
+  pages_of_area h =
       let count : length a.scales ≡ length r.boundaries = sym (length-map a.scales length) ∙ ap length h.lawful.boundaries in
       record {
         spelled = record {
@@ -73,4 +73,4 @@ module _ (s : Shape) (image : List ℕ) (r : RootFields) (a : Area) (lawful : Is
       }
 
 pub all_spelled : AreAllSpelled
-all_spelled s image r a lawful root = (whole s image r a lawful root, by_pages s image r a lawful root)
+all_spelled s image r a lawful root = (area_of_pages s image r a lawful root, pages_of_area s image r a lawful root)

@@ -1,19 +1,17 @@
 -- What is gathered from the pages of a table area, one after the other.
-use Rattle.std.specs.Prelude.{◌≡◌, ◌<◌, ◌≤◌, ◌+◌, ◌*◌, ◌++◌, ℕ, Bool, false, cond, List, length, replicate, drop, slice_index, slice_index_or}
-use Rattle.page_fields.specs.Fields.{number}
+use Rattle.std.specs.Prelude.{◌≡◌, ◌≤◌, ◌+◌, ◌*◌, ◌++◌, ℕ, Bool, false, cond, List, length, replicate, slice_index_or, IsTrue}
 use Rattle.grid_model.specs.Lists.{is_among, AreDistinct}
 use Rattle.grid_model.specs.Scales.{scale_of}
 use Rattle.grid_model.specs.Lawful.{Area, pages_named}
 use Rattle.grid_types.specs.declared.shape.Shape.{Shape}
+use Rattle.grid_types.specs.declared.sizes.TheConstants.{PAGE_BYTES}
+use Rattle.grid_types.specs.Pages.{page_of}
 use Rattle.grid_types.specs.Shapes.{file_pages}
 use Rattle.grid_model.specs.Spellings.{RootFields}
 use Rattle.linear_scales.specs.Limited.{scales_of, limits_of}
 use Rattle.file_roots.specs.declared.gathering.Gathered.{Gathered}
 use Rattle.file_roots.specs.Damage.{SpellsUpTo, HasAreaUpTo}
-
--- these are the entries of w bytes on a page
-abbrev pub AreOn : ℕ → List ℕ → List ℕ → Type 0
-AreOn w page entries = (i : ℕ) → i < length entries → slice_index entries i ≡ number w (drop (96 + w * i) page)
+use Rattle.file_roots.specs.Places.{own_page}
 
 -- these data pages are marked, and no other; each is named once
 pub record AreMarked (marks : List Bool) (named : List ℕ) : Type 0 where
@@ -41,6 +39,11 @@ pub record IsGathered {K : ℕ} (s : Shape) (image : List ℕ) (r : RootFields) 
   pub spelled : SpellsUpTo s image r n (area_in g)
   pub marked : AreMarked g.marks.items (pages_in (area_in g))
 
+-- a page is taken as page n of a root's table area, or refused: where those before it were gathered, they are with one that is taken, and with one that is refused they say nothing of any area
+pub record TakesPage {K : ℕ} (s : Shape) (r : RootFields) (n : ℕ) (page : List ℕ) (old new : Gathered K) (taken : Bool) : Type 0 where
+  pub gathered : (image : List ℕ) → page_of (own_page s r.number n) image ≡ page → IsGathered s image r n old → IsTrue taken → IsGathered s image r (n + 1) new
+  pub refused : (image : List ℕ) → page_of (own_page s r.number n) image ≡ page → IsGathered s image r n old → taken ≡ false → (a : Area) → SpellsUpTo s image r (n + 1) a → ⊥
+
 -- there is room for what is gathered: a scale for each attribute, each with the shape's limit, and a mark for each data page
 pub record HasRoom {K : ℕ} (s : Shape) (g : Gathered K) : Type 0 where
   pub scales : length g.scales ≡ K
@@ -55,5 +58,5 @@ pub record HasGathered {K : ℕ} (s : Shape) (image : List ℕ) (r : RootFields)
 -- this may have been gathered from the first n pages of a root's table area: some file of the shape has such pages
 pub record MayBeGathered {K : ℕ} (s : Shape) (r : RootFields) (n : ℕ) (g : Gathered K) : Type 0 where
   pub image : List ℕ
-  pub long : file_pages s * 4096 ≤ length image
+  pub long : file_pages s * PAGE_BYTES ≤ length image
   pub gathered : HasGathered s image r n g

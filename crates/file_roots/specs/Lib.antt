@@ -1,5 +1,9 @@
 pub mod Roots
+pub mod Places
 pub mod Replacing
+pub mod Writing
 pub mod Damage
 pub mod Gathering
+pub mod Reading
+pub mod Refusals
 pub mod Headers

@@ -1,33 +1,35 @@
 -- What an image shows of its roots while one of them is replaced.
-use Rattle.std.specs.Prelude.{◌≡◌, ◌≢◌, ◌⊎◌, ◌<◌, ◌+◌, ◌*◌, ℕ, List, [], ◌∷◌, Option, Some, None, ⊤, IsTrue}
+use Rattle.std.specs.Prelude.{◌≡◌, ◌≢◌, ◌⊎◌, ◌<◌, ◌+◌, ℕ, List, [], ◌∷◌, Option, Some, None, ⊤, IsTrue}
 use Rattle.grid_types.specs.declared.shape.Shape.{Shape}
-use Rattle.grid_types.specs.Shapes.{is_shape, area_pages, header_page, table_page, header_gate_at, root_fields_at}
-use Rattle.disk_trait.specs.Disk.{Agrees}
-use Rattle.disk_trait.specs.Moments.{Always}
+use Rattle.grid_types.specs.Shapes.{is_shape, header_page}
 use Rattle.grid_model.specs.Spellings.{RootFields, root_bytes}
 use Rattle.grid_model.specs.Lawful.{IsRootOn, Area}
 use Rattle.grid_model.specs.Images.{header_gate, root_fields, IsOpenOver, IsNewest, HasArea}
 use Rattle.file_roots.specs.Roots.{WholeRoot}
 
--- a root is the newest, and its table area is whole
-pub record IsWhole (s : Shape) (r : RootFields) (a : Area) (image : List ℕ) : Type 0 where
-  pub newest : IsNewest s image r
-  pub area : HasArea s image r a
+-- the table area of a root is whole
+abbrev pub HasAreaOf : Shape → WholeRoot → List ℕ → Type 0
+HasAreaOf s w image = HasArea s image w.fields w.area
+
+-- a root is the newest, with its whole table area
+pub record IsNewestWhole (s : Shape) (w : WholeRoot) (image : List ℕ) : Type 0 where
+  pub newest : IsNewest s image w.fields
+  pub area : HasAreaOf s w image
 
 -- there is no root: no gate is open
 pub record HasNoRoot (image : List ℕ) : Type 0 where
   pub zeroth : header_gate image 0 ≢ 1
   pub first : header_gate image 1 ≢ 1
 
--- the old root is the newest, and its table area is whole; in a new file, which has none, there is no root
+-- the old root is the newest, with its whole table area; in a new file, which has none, there is no root
 abbrev pub ShowsOld : Shape → Option WholeRoot → List ℕ → Type 0
 ShowsOld s None image = HasNoRoot image
-ShowsOld s (Some old) image = IsWhole s old.fields old.area image
+ShowsOld s (Some old) image = IsNewestWhole s old image
 
--- one of these roots, or the old one, is the newest, and its table area is whole; in a new file there may be no root
+-- one of these roots, or the old one, is the newest, with its whole table area; in a new file there may be no root
 abbrev pub IsOneOf : Shape → Option WholeRoot → List WholeRoot → List ℕ → Type 0
 IsOneOf s old [] image = ShowsOld s old image
-IsOneOf s old (w ∷ ws) image = IsWhole s w.fields w.area image ⊎ IsOneOf s old ws image
+IsOneOf s old (w ∷ ws) image = IsNewestWhole s w image ⊎ IsOneOf s old ws image
 
 -- a root of this number, which goes onto the other header page, comes after the old one
 pub record ComesAfter (old : RootFields) (number : ℕ) : Type 0 where
@@ -46,7 +48,7 @@ IsOtherOlder s number image = (header_gate image (header_page (number + 1)) ≢ 
 -- a root stands on its header page, whatever the other one has: its gate is open over its fields, and its table area is whole
 pub record IsStanding (s : Shape) (w : WholeRoot) (image : List ℕ) : Type 0 where
   pub opens : IsOpenOver s image (header_page w.fields.number) w.fields
-  pub area : HasArea s image w.fields w.area
+  pub area : HasAreaOf s w image
 
 -- beside the header page of a root of this number the old root stands; in a new file the other header page is closed
 abbrev pub KeepsOld : Shape → ℕ → Option WholeRoot → List ℕ → Type 0
@@ -71,7 +73,7 @@ HasOlder s header (Some old) image = (older : RootFields) × HasFields s header 
 -- a header page has the fields of a root that was tried after the old one, and its table area is whole
 pub record HasTried (s : Shape) (header : ℕ) (old : Option WholeRoot) (w : WholeRoot) (image : List ℕ) : Type 0 where
   pub fields : HasFields s header w.fields image
-  pub area : HasArea s image w.fields w.area
+  pub area : HasAreaOf s w image
   pub next : ComesNext old w.fields.number
 
 -- one of these roots was tried
@@ -83,26 +85,6 @@ HasOneTried s header old (w ∷ ws) image = HasTried s header old w image ⊎ Ha
 pub record IsReplaceable (s : Shape) (number gate : ℕ) (old : Option WholeRoot) (tried : List WholeRoot) (image : List ℕ) : Type 0 where
   pub keeps : KeepsOld s number old image
   pub under : ((gate ≢ 1) × (header_gate image (header_page number) ≢ 1)) ⊎ (HasOlder s (header_page number) old image ⊎ HasOneTried s (header_page number) old tried image)
-
--- a root of this number may be written on a disk that reads as this image: it may in each image that a crash may leave
-abbrev pub MayBeWritten : Shape → ℕ → List ℕ → (List ℕ → Type 0) → Option WholeRoot → List WholeRoot → Type 0
-MayBeWritten s number seen may_leave old tried = Always may_leave (IsReplaceable s number (header_gate seen (header_page number)) old tried)
-
--- the bytes of a header page that a root writes: its fields and its gate
-abbrev pub header_ranges : ℕ → List (ℕ × ℕ)
-header_ranges header = (root_fields_at header, 56) ∷ (header_gate_at header, 1) ∷ []
-
--- the bytes of a table area: where they begin, and how many there are
-abbrev pub area_range : Shape → ℕ → ℕ × ℕ
-area_range s area = (table_page s area 0 * 4096, area_pages s * 4096)
-
--- the bytes that a root writes in all
-abbrev pub root_ranges : Shape → ℕ → List (ℕ × ℕ)
-root_ranges s header = area_range s header ∷ header_ranges header
-
--- two images differ in no byte outside of a range; a range is its start and its length
-abbrev pub Within : ℕ × ℕ → List ℕ → List ℕ → Type 0
-Within range old new = Agrees range.0 range.1 old new
 
 -- a whole root is the old one, or one of the others
 abbrev pub IsAmong : Option WholeRoot → List WholeRoot → WholeRoot → Type 0

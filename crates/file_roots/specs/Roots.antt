@@ -8,8 +8,8 @@ use Rattle.linear_scales.specs.Limited.{scales_of}
 use Rattle.file_roots.specs.declared.root.Root.{Root}
 
 -- the fields of a root on its header page
-abbrev pub fields_of : {K : ℕ} → Root K → RootFields
-fields_of root = record {
+abbrev pub root_fields_of : {K : ℕ} → Root K → RootFields
+root_fields_of root = record {
   number = root.number;
   session = root.session;
   front = root.front;
@@ -30,9 +30,13 @@ pub record WholeRoot : Type 0 where
 
 -- the whole of a root
 abbrev pub whole_of : {K : ℕ} → Root K → WholeRoot
-whole_of root = record { fields = fields_of root; area = area_of root }
+whole_of root = record { fields = root_fields_of root; area = area_of root }
 
--- a root has a spelling in a file of this shape: its fields are lawful on its header page, and its table area is lawful for them
+-- these are the fields of a root of a file of this shape: they are lawful on their own header page
+abbrev pub AreRootFields : Shape → RootFields → Type 0
+AreRootFields s r = IsRootOn s (header_page r.number) r
+
+-- a root has a spelling in a file of this shape: its fields are lawful, and its table area is lawful for them
 pub record IsRoot {K : ℕ} (shape : Shape) (root : Root K) : Type 0 where
-  pub fields : IsRootOn shape (header_page root.number) (fields_of root)
-  pub area : IsAreaOf shape (fields_of root) (area_of root)
+  pub fields : AreRootFields shape (root_fields_of root)
+  pub area : IsAreaOf shape (root_fields_of root) (area_of root)

@@ -1,17 +1,21 @@
 //! A header page is closed before another root is written on it.
-ghost use Rattle.std.specs.Prelude.{◌≡◌, ◌≢◌, ◌⊎◌, ◌≤◌, ◌+◌, ◌*◌, ◌%◌, List, Option, IsTrue, OnOk, OnErr, IfErr, IsErrOf, slice_index};
-ghost use Rattle.grid_types.specs.declared.refusal.Refusal.TheVariants.{ReadFault, WriteFault};
-ghost use Rattle.grid_types.specs.Shapes.{is_shape, file_pages, header_page, header_gate_at};
+ghost use Rattle.std.specs.Prelude.{◌≡◌, ◌≢◌, ◌≤◌, ◌+◌, ◌*◌, ◌%◌, List, Option, IsTrue, OnOk, OnErr, slice_index};
+ghost use Rattle.grid_types.specs.declared.sizes.TheConstants.{PAGE_BYTES};
+ghost use Rattle.grid_types.specs.Shapes.{file_pages, header_page};
 ghost use Rattle.grid_model.specs.Images.{header_gate};
-ghost use Rattle.disk_trait.specs.Causes.{HasCause, Rose};
-ghost use Rattle.disk_trait.specs.Disk.{Only, Agrees};
-ghost use Rattle.disk_trait.specs.Moments.{After, Always, LeavesOnly};
+ghost use Rattle.disk_trait.specs.Calls.{Changes, IsSynced, HasCauses};
+ghost use Rattle.disk_trait.specs.Causes.{HasCause};
+ghost use Rattle.disk_trait.specs.Disk.{Agrees, Stays};
+ghost use Rattle.disk_trait.specs.Moments.{LeavesOnly};
 ghost use Rattle.file_roots.specs.Roots.{WholeRoot};
-ghost use Rattle.file_roots.specs.Replacing.{ComesNext, IsOneOf, IsReady, MayBeWritten};
+ghost use Rattle.file_roots.specs.Places.{GateAlone};
+ghost use Rattle.file_roots.specs.Replacing.{IsOneOf};
+ghost use Rattle.file_roots.specs.Writing.{MayBeWritten, Awaits};
+ghost use Rattle.file_roots.specs.Refusals.{MayRefuseWriting};
 
 use crate::header::GATE;
-use disk_trait::{Disk, DiskFailed, Steps, write_through};
-use grid_types::{Geometry, Refusal};
+use disk_trait::{Disk, DiskFailed, Steps, read_page, write_through};
+use grid_types::{Geometry, PAGE_BYTES, Refusal};
 use std::sync::ledger::Ledger;
 
 /// Writes 0 on a gate that reads as open, and syncs. A gate that reads as closed is not written, since a crash during the
@@ -21,18 +25,10 @@ fn shut<D: Disk>(disk: &mut D, at: u64, gate: u8) -> Result<(), DiskFailed>
     ensures closed { IsTrue (D.honest disk.old)
         → gate ≡ slice_index (D.seen disk.old) at
         → OnOk result (slice_index (D.seen disk.new) at ≢ 1) }
-    ensures durable { IsTrue (D.honest disk.old) → OnOk result (Only (D.seen disk.new) (D.may_leave disk.new)) }
-    ensures outside { IsTrue (D.honest disk.old) → Agrees at 1 (D.seen disk.old) (D.seen disk.new) }
-    ensures moments { IsTrue (D.honest disk.old)
-        → LeavesOnly D.moment D.left_since disk.old disk.new (After (Agrees at 1) (D.may_leave disk.old)) }
-    ensures unwritten { IsTrue (D.honest disk.old)
-        → gate ≢ 1
-        → LeavesOnly D.moment D.left_since disk.old disk.new (D.may_leave disk.old) }
-    ensures unchanged { IsTrue (D.honest disk.old) → gate ≢ 1 → D.seen disk.new ≡ D.seen disk.old }
-    ensures extent { D.extent disk.new ≡ D.extent disk.old }
-    ensures honest { D.honest disk.new ≡ D.honest disk.old }
+    ensures durable { OnOk result (IsSynced D.Disk disk.new) }
+    ensures changes { Changes D.Disk (Agrees at 1) disk.old disk.new }
+    ensures unwritten { gate ≢ 1 → Changes D.Disk Stays disk.old disk.new }
     ensures cause { HasCause (D.write_count disk.old) (D.write_count disk.new) result }
-    ensures other { D.read_count disk.old ≤ D.read_count disk.new }
 {
     if gate == 1 {
         return write_through(disk, at, &[0]);
@@ -48,52 +44,29 @@ pub fn close_root<D: Disk, L: Ledger>(
     number: u64,
     steps: &mut Steps<L>,
 ) -> Result<(), Refusal>
-    requires lawful { IsTrue (is_shape geometry.now.shape) }
-    requires size { file_pages geometry.now.shape * 4096 ≤ D.extent disk.old }
-    ensures ready { IsTrue (D.honest disk.old)
-        → (old : Option WholeRoot) (tried : List WholeRoot)
-        → ComesNext old number
-        → MayBeWritten geometry.now.shape number (D.seen disk.old) (D.may_leave disk.old) old tried
-        → OnOk result (Always (D.may_leave disk.new) (IsReady geometry.now.shape number old)) }
-    ensures old_or_tried { IsTrue (D.honest disk.old)
-        → (old : Option WholeRoot) (tried : List WholeRoot)
-        → ComesNext old number
-        → MayBeWritten geometry.now.shape number (D.seen disk.old) (D.may_leave disk.old) old tried
-        → LeavesOnly D.moment D.left_since disk.old disk.new (IsOneOf geometry.now.shape old tried) }
-    ensures again { IsTrue (D.honest disk.old)
-        → (old : Option WholeRoot) (tried : List WholeRoot)
-        → ComesNext old number
-        → MayBeWritten geometry.now.shape number (D.seen disk.old) (D.may_leave disk.old) old tried
-        → OnErr result (MayBeWritten geometry.now.shape number (D.seen disk.new) (D.may_leave disk.new) old tried) }
-    ensures closed { IsTrue (D.honest disk.old) → OnOk result (header_gate (D.seen disk.new) (header_page number) ≢ 1) }
-    ensures durable { IsTrue (D.honest disk.old) → OnOk result (Only (D.seen disk.new) (D.may_leave disk.new)) }
-    ensures outside { IsTrue (D.honest disk.old)
-        → Agrees (header_gate_at (header_page number)) 1 (D.seen disk.old) (D.seen disk.new) }
-    ensures moments { IsTrue (D.honest disk.old)
-        → LeavesOnly D.moment D.left_since disk.old disk.new (After (Agrees (header_gate_at (header_page number)) 1) (D.may_leave disk.old)) }
-    ensures unwritten { IsTrue (D.honest disk.old)
-        → header_gate (D.seen disk.old) (header_page number) ≢ 1
-        → LeavesOnly D.moment D.left_since disk.old disk.new (D.may_leave disk.old) }
-    ensures unchanged { IsTrue (D.honest disk.old)
-        → header_gate (D.seen disk.old) (header_page number) ≢ 1
-        → D.seen disk.new ≡ D.seen disk.old }
-    ensures extent { D.extent disk.new ≡ D.extent disk.old }
-    ensures honest { D.honest disk.new ≡ D.honest disk.old }
-    ensures read_fault { IsErrOf result ReadFault → Rose (D.read_count disk.old) (D.read_count disk.new) }
-    ensures write_fault { IsErrOf result WriteFault → Rose (D.write_count disk.old) (D.write_count disk.new) }
-    ensures no_other { IfErr result (λ e. (e ≡ ReadFault) ⊎ (e ≡ WriteFault)) }
-    ensures reads { D.read_count disk.old ≤ D.read_count disk.new }
-    ensures writes { D.write_count disk.old ≤ D.write_count disk.new }
+    requires { file_pages geometry.now.shape * PAGE_BYTES ≤ D.extent disk.old }
+    ensures awaits { (old : Option WholeRoot) (tried : List WholeRoot)
+        → MayBeWritten D.Disk geometry.now.shape number old tried disk.old
+        → OnOk result (Awaits D.Disk geometry.now.shape number old disk.new) }
+    ensures old_or_tried { (old : Option WholeRoot) (tried : List WholeRoot)
+        → MayBeWritten D.Disk geometry.now.shape number old tried disk.old
+        → LeavesOnly D.moment D.left_since disk.old disk.new
+        (IsOneOf geometry.now.shape old tried) }
+    ensures again { (old : Option WholeRoot) (tried : List WholeRoot)
+        → MayBeWritten D.Disk geometry.now.shape number old tried disk.old
+        → OnErr result (MayBeWritten D.Disk geometry.now.shape number old tried disk.new) }
+    ensures closed { IsTrue (D.honest disk.old)
+        → OnOk result (header_gate (D.seen disk.new) (header_page number) ≢ 1) }
+    ensures durable { OnOk result (IsSynced D.Disk disk.new) }
+    ensures changes { Changes D.Disk (GateAlone number) disk.old disk.new }
+    ensures unwritten { header_gate (D.seen disk.old) (header_page number) ≢ 1
+        → Changes D.Disk Stays disk.old disk.new }
+    ensures causes { HasCauses D.Disk MayRefuseWriting disk.old disk.new result }
     ensures ticks { steps.new ≡ steps.old + 1 }
 {
     let header = number % 2;
-    let mut page = [0; 4096];
-    match disk.read(header, &mut page, steps) {
-        Ok(()) => {}
-        Err(DiskFailed) => return Err(Refusal::ReadFault),
-    }
-    match shut(disk, header * 4096 + GATE, page[GATE as usize]) {
-        Ok(()) => Ok(()),
-        Err(DiskFailed) => Err(Refusal::WriteFault),
-    }
+    let mut page = [0; PAGE_BYTES];
+    read_page(disk, header, &mut page, steps)?;
+    let at = header * PAGE_BYTES as u64 + GATE;
+    shut(disk, at, page[GATE as usize]).map_err(|_| Refusal::WriteFault)
 }

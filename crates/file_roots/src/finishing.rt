@@ -1,13 +1,16 @@
 //! A root is finished: its fields are written, and then its gate is opened.
-ghost use Rattle.std.specs.Prelude.{◌≡◌, ◌<◌, ◌≤◌, ◌+◌, ◌*◌, ◌%◌, [], ◌∷◌, Option, IsTrue, OnOk, OnErr};
-ghost use Rattle.grid_types.specs.Shapes.{is_shape, file_pages, header_page, root_fields_at};
+ghost use Rattle.std.specs.Prelude.{◌≡◌, ◌≤◌, ◌+◌, ◌*◌, ◌%◌, [], ◌∷◌, Option, IsTrue, OnOk, OnErr};
+ghost use Rattle.grid_types.specs.declared.sizes.TheConstants.{PAGE_BYTES};
+ghost use Rattle.grid_types.specs.Shapes.{file_pages, header_page};
 ghost use Rattle.grid_model.specs.Spellings.{root_bytes};
-ghost use Rattle.grid_model.specs.Images.{root_fields, HasArea};
+ghost use Rattle.grid_model.specs.Images.{root_fields};
+ghost use Rattle.disk_trait.specs.Calls.{Changes, IsSynced};
 ghost use Rattle.disk_trait.specs.Causes.{HasCause};
-ghost use Rattle.disk_trait.specs.Disk.{Only, Agrees};
-ghost use Rattle.disk_trait.specs.Moments.{After, Always, AgreesOutside, LeavesOnly};
-ghost use Rattle.file_roots.specs.Roots.{WholeRoot, fields_of, area_of, whole_of, IsRoot};
-ghost use Rattle.file_roots.specs.Replacing.{IsWhole, IsOneOf, ComesNext, IsOtherOlder, IsReady, MayBeWritten, header_ranges};
+ghost use Rattle.disk_trait.specs.Moments.{LeavesOnly};
+ghost use Rattle.file_roots.specs.Roots.{WholeRoot, root_fields_of, whole_of, IsRoot};
+ghost use Rattle.file_roots.specs.Places.{FieldsAlone, HeaderAlone};
+ghost use Rattle.file_roots.specs.Replacing.{HasAreaOf, IsNewestWhole, IsOneOf, IsOtherOlder};
+ghost use Rattle.file_roots.specs.Writing.{MayBeWritten, Awaits};
 
 use crate::Root;
 use crate::header::{FIELDS, GATE, write_on_header};
@@ -22,22 +25,15 @@ fn write_fields<const K: usize, D: Disk>(
     geometry: &Geometry,
     root: &Root<K>,
 ) -> Result<(), DiskFailed>
-    requires lawful { IsTrue (is_shape geometry.now.shape) }
-    requires few { K ≤ 4 }
     requires attributes { geometry.now.shape.k ≡ K }
     requires root { IsRoot geometry.now.shape root.now }
-    requires size { file_pages geometry.now.shape * 4096 ≤ D.extent disk.old }
+    requires size { file_pages geometry.now.shape * PAGE_BYTES ≤ D.extent disk.old }
     ensures fields { IsTrue (D.honest disk.old)
-        → OnOk result (root_fields (D.seen disk.new) (header_page root.now.number) ≡ root_bytes (fields_of root.now)) }
-    ensures durable { IsTrue (D.honest disk.old) → OnOk result (Only (D.seen disk.new) (D.may_leave disk.new)) }
-    ensures outside { IsTrue (D.honest disk.old)
-        → Agrees (root_fields_at (header_page root.now.number)) 56 (D.seen disk.old) (D.seen disk.new) }
-    ensures moments { IsTrue (D.honest disk.old)
-        → LeavesOnly D.moment D.left_since disk.old disk.new (After (Agrees (root_fields_at (header_page root.now.number)) 56) (D.may_leave disk.old)) }
-    ensures extent { D.extent disk.new ≡ D.extent disk.old }
-    ensures honest { D.honest disk.new ≡ D.honest disk.old }
+        → OnOk result (root_fields (D.seen disk.new) (header_page root.now.number)
+        ≡ root_bytes (root_fields_of root.now)) }
+    ensures durable { OnOk result (IsSynced D.Disk disk.new) }
+    ensures changes { Changes D.Disk (FieldsAlone root.now.number) disk.old disk.new }
     ensures cause { HasCause (D.write_count disk.old) (D.write_count disk.new) result }
-    ensures other { D.read_count disk.old ≤ D.read_count disk.new }
 {
     let mut bytes = [0; 56];
     encode_fields(&fields(root), &mut bytes);
@@ -52,40 +48,27 @@ pub fn finish_root<const K: usize, D: Disk>(
     geometry: &Geometry,
     root: &Root<K>,
 ) -> Result<(), DiskFailed>
-    requires lawful { IsTrue (is_shape geometry.now.shape) }
-    requires few { K ≤ 4 }
     requires attributes { geometry.now.shape.k ≡ K }
     requires root { IsRoot geometry.now.shape root.now }
-    requires size { file_pages geometry.now.shape * 4096 ≤ D.extent disk.old }
-    ensures old_or_new { IsTrue (D.honest disk.old)
-        → (old : Option WholeRoot)
-        → ComesNext old root.now.number
-        → HasArea geometry.now.shape (D.seen disk.old) (fields_of root.now) (area_of root.now)
-        → Always (D.may_leave disk.old) (IsReady geometry.now.shape root.now.number old)
-        → LeavesOnly D.moment D.left_since disk.old disk.new (IsOneOf geometry.now.shape old (whole_of root.now ∷ [])) }
-    ensures again { IsTrue (D.honest disk.old)
-        → (old : Option WholeRoot)
-        → ComesNext old root.now.number
-        → HasArea geometry.now.shape (D.seen disk.old) (fields_of root.now) (area_of root.now)
-        → Always (D.may_leave disk.old) (IsReady geometry.now.shape root.now.number old)
-        → OnErr result (MayBeWritten geometry.now.shape root.now.number (D.seen disk.new) (D.may_leave disk.new) old (whole_of root.now ∷ [])) }
+    requires size { file_pages geometry.now.shape * PAGE_BYTES ≤ D.extent disk.old }
+    ensures old_or_new { (old : Option WholeRoot)
+        → Awaits D.Disk geometry.now.shape root.now.number old disk.old
+        → HasAreaOf geometry.now.shape (whole_of root.now) (D.seen disk.old)
+        → LeavesOnly D.moment D.left_since disk.old disk.new
+        (IsOneOf geometry.now.shape old (whole_of root.now ∷ [])) }
+    ensures again { (old : Option WholeRoot)
+        → Awaits D.Disk geometry.now.shape root.now.number old disk.old
+        → HasAreaOf geometry.now.shape (whole_of root.now) (D.seen disk.old)
+        → OnErr result (MayBeWritten D.Disk geometry.now.shape
+        root.now.number old (whole_of root.now ∷ []) disk.new) }
     ensures finished { IsTrue (D.honest disk.old)
-        → HasArea geometry.now.shape (D.seen disk.old) (fields_of root.now) (area_of root.now)
+        → HasAreaOf geometry.now.shape (whole_of root.now) (D.seen disk.old)
         → IsOtherOlder geometry.now.shape root.now.number (D.seen disk.old)
-        → OnOk result (IsWhole geometry.now.shape (fields_of root.now) (area_of root.now) (D.seen disk.new)) }
-    ensures elsewhere { IsTrue (D.honest disk.old)
-        → LeavesOnly D.moment D.left_since disk.old disk.new (After (AgreesOutside (header_ranges (header_page root.now.number))) (D.may_leave disk.old)) }
-    ensures outside { IsTrue (D.honest disk.old)
-        → AgreesOutside (header_ranges (header_page root.now.number)) (D.seen disk.old) (D.seen disk.new) }
-    ensures durable { IsTrue (D.honest disk.old) → OnOk result (Only (D.seen disk.new) (D.may_leave disk.new)) }
-    ensures extent { D.extent disk.new ≡ D.extent disk.old }
-    ensures honest { D.honest disk.new ≡ D.honest disk.old }
+        → OnOk result (IsNewestWhole geometry.now.shape (whole_of root.now) (D.seen disk.new)) }
+    ensures changes { Changes D.Disk (HeaderAlone root.now.number) disk.old disk.new }
+    ensures durable { OnOk result (IsSynced D.Disk disk.new) }
     ensures cause { HasCause (D.write_count disk.old) (D.write_count disk.new) result }
-    ensures other { D.read_count disk.old ≤ D.read_count disk.new }
 {
-    match write_fields(disk, geometry, root) {
-        Ok(()) => {}
-        Err(DiskFailed) => return Err(DiskFailed),
-    }
+    write_fields(disk, geometry, root)?;
     write_on_header(disk, root.number, GATE, &[1])
 }

@@ -1,15 +1,16 @@
 //! The entries of the pages of a table area, gathered as long as they are lawful.
 ghost use Rattle.std.specs.Prelude.{◌≡◌, ◌<◌, ◌≤◌, ◌+◌, ◌-◌, ◌/◌, ◌++◌, ◌∷◌, [], ℕ, false, List, length, slice_index_or, slice_set, All, IsTrue, IfOk};
-ghost use Rattle.grid_types.specs.Shapes.{is_shape, header_page};
+ghost use Rattle.grid_types.specs.declared.sizes.TheConstants.{NUMBERS_ON_PAGE, WORDS_ON_PAGE};
 ghost use Rattle.grid_model.specs.Lists.{AreDistinct};
 ghost use Rattle.grid_model.specs.Spellings.{RootFields};
-ghost use Rattle.grid_model.specs.Lawful.{IsRootOn};
 ghost use Rattle.grid_model.specs.Scales.{is_scale, scale_of};
 ghost use Rattle.linear_scales.specs.Limited.{LimitedScale, scales_of, limits_of};
-ghost use Rattle.file_roots.specs.Gathering.{AreOn, AreMarked, named_by, longer_scale, HasRoom, HasGathered};
+ghost use Rattle.root_pages.specs.Reading.{AreOn};
+ghost use Rattle.file_roots.specs.Roots.{AreRootFields};
+ghost use Rattle.file_roots.specs.Gathering.{AreMarked, named_by, longer_scale, HasRoom, HasGathered};
 
 use crate::NOWHERE;
-use grid_types::{PageList, Shape};
+use grid_types::{Geometry, PAGE_BYTES, PageList};
 use linear_scales::Scales;
 use root_pages::{boundary_at, entry_at};
 use std::alloc::{AllocError, Global};
@@ -25,16 +26,15 @@ pub struct Gathered<const K: usize> {
 
 impl<const K: usize> Gathered<K> {
     /// Nothing yet. All memory for scales and marks is taken here.
-    pub fn new(alloc: Global, shape: &Shape) -> Result<Gathered<K>, AllocError>
-        requires lawful { IsTrue (is_shape shape.now) }
-        requires attributes { shape.now.k ≡ K }
-        ensures room { IfOk result (HasRoom shape.now) }
+    pub fn new(alloc: Global, geometry: &Geometry) -> Result<Gathered<K>, AllocError>
+        requires { geometry.now.shape.k ≡ K }
+        ensures room { IfOk result (HasRoom geometry.now.shape) }
         ensures empty { (image : List ℕ) (r : RootFields)
-            → IsRootOn shape.now (header_page r.number) r
-            → IfOk result (HasGathered shape.now image r 0) }
+            → AreRootFields geometry.now.shape r
+            → IfOk result (HasGathered geometry.now.shape image r 0) }
     {
-        let scales = Scales::new(alloc, shape.boundaries as u16)?;
-        let marks = vec![in alloc; false; shape.pages as usize]?;
+        let scales = Scales::new(alloc, geometry.shape.boundaries)?;
+        let marks = vec![in alloc; false; geometry.shape.pages as usize]?;
         Ok(Gathered {
             scales,
             parts: PageList::new(alloc),
@@ -48,8 +48,10 @@ impl<const K: usize> Gathered<K> {
 fn add_boundary<const K: usize>(scales: &mut Scales<K>, a: usize, v: u64) -> bool
     requires { a < K }
     ensures added { IsTrue result
-        → scales_of scales.new ≡ slice_set (scales_of scales.old) a (longer_scale (scales_of scales.old) a (v ∷ [])) }
-    ensures scale { IsTrue result → IsTrue (is_scale (longer_scale (scales_of scales.old) a (v ∷ []))) }
+        → scales_of scales.new
+        ≡ slice_set (scales_of scales.old) a (longer_scale (scales_of scales.old) a (v ∷ [])) }
+    ensures scale { IsTrue result
+        → IsTrue (is_scale (longer_scale (scales_of scales.old) a (v ∷ []))) }
     ensures refused { result ≡ false
         → (d : LimitedScale)
         → length (scale_of (scales_of scales.old) a) < (slice_index_or scales.old a d).limit
@@ -62,36 +64,31 @@ fn add_boundary<const K: usize>(scales: &mut Scales<K>, a: usize, v: u64) -> boo
     if v <= last {
         return false;
     }
-    match scales.refine(a, v) {
-        Ok(()) => true,
-        Err(_) => false,
-    }
+    scales.refine(a, v).is_ok()
 }
 
 /// Adds the boundaries of a page behind those of a scale, as long as they ascend.
 pub fn take_boundaries<const K: usize>(
     scales: &mut Scales<K>,
     a: usize,
-    page: &[u8; 4096],
+    page: &[u8; PAGE_BYTES],
     count: usize,
 ) -> bool
     requires attribute { a < K }
-    requires few { count ≤ 500 }
+    requires few { count ≤ NUMBERS_ON_PAGE }
     requires attributes { length scales.old ≡ K }
     ensures taken { (xs : List ℕ)
-        → AreOn 8 page.now xs
-        → length xs ≡ count
+        → AreOn 8 count page.now xs
         → IsTrue result
-        → scales_of scales.new ≡ slice_set (scales_of scales.old) a (longer_scale (scales_of scales.old) a xs) }
+        → scales_of scales.new
+        ≡ slice_set (scales_of scales.old) a (longer_scale (scales_of scales.old) a xs) }
     ensures scale { IsTrue (is_scale (scale_of (scales_of scales.old) a))
         → (xs : List ℕ)
-        → AreOn 8 page.now xs
-        → length xs ≡ count
+        → AreOn 8 count page.now xs
         → IsTrue result
         → IsTrue (is_scale (longer_scale (scales_of scales.old) a xs)) }
     ensures refused { (xs : List ℕ)
-        → AreOn 8 page.now xs
-        → length xs ≡ count
+        → AreOn 8 count page.now xs
         → result ≡ false
         → (d : LimitedScale)
         → length (longer_scale (scales_of scales.old) a xs) ≤ (slice_index_or scales.old a d).limit
@@ -139,7 +136,8 @@ fn mark_entry(marks: &mut Vec<bool>, entry: u32, may_be_nowhere: bool) -> bool
         → AreMarked marks.old.items named
         → IsTrue result
         → AreMarked marks.new.items (named ++ named_by may_be_nowhere (entry ∷ [])) }
-    ensures inside { IsTrue result → All (λ p. p < length marks.old.items) (named_by may_be_nowhere (entry ∷ [])) }
+    ensures inside { IsTrue result
+        → All (λ p. p < length marks.old.items) (named_by may_be_nowhere (entry ∷ [])) }
     ensures refused { (named more : List ℕ)
         → AreMarked marks.old.items named
         → result ≡ false
@@ -158,29 +156,30 @@ fn mark_entry(marks: &mut Vec<bool>, entry: u32, may_be_nowhere: bool) -> bool
 pub fn take_pages(
     list: &mut PageList,
     marks: &mut Vec<bool>,
-    page: &[u8; 4096],
+    page: &[u8; PAGE_BYTES],
     count: usize,
     may_be_nowhere: bool,
 ) -> Result<bool, AllocError>
-    requires { count ≤ 1000 }
+    requires { count ≤ WORDS_ON_PAGE }
     ensures taken { (xs : List ℕ)
-        → AreOn 4 page.now xs
-        → length xs ≡ count
+        → AreOn 4 count page.now xs
         → IfOk result (λ t. IsTrue t → list.new ≡ list.old ++ xs) }
     ensures inside { (xs : List ℕ)
-        → AreOn 4 page.now xs
-        → length xs ≡ count
-        → IfOk result (λ t. IsTrue t → All (λ p. p < length marks.old.items) (named_by may_be_nowhere xs)) }
+        → AreOn 4 count page.now xs
+        → IfOk result (λ t. IsTrue t
+        → All (λ p. p < length marks.old.items) (named_by may_be_nowhere xs)) }
     ensures marked { (xs named : List ℕ)
-        → AreOn 4 page.now xs
-        → length xs ≡ count
+        → AreOn 4 count page.now xs
         → AreMarked marks.old.items named
-        → IfOk result (λ t. IsTrue t → AreMarked marks.new.items (named ++ named_by may_be_nowhere xs)) }
+        → IfOk result (λ t. IsTrue t
+        → AreMarked marks.new.items (named ++ named_by may_be_nowhere xs)) }
     ensures refused { (xs named : List ℕ)
-        → AreOn 4 page.now xs
-        → length xs ≡ count
+        → AreOn 4 count page.now xs
         → AreMarked marks.old.items named
-        → IfOk result (λ t. t ≡ false → All (λ p. p < length marks.old.items) (named_by may_be_nowhere xs) → AreDistinct (named ++ named_by may_be_nowhere xs) → ⊥) }
+        → IfOk result (λ t. t ≡ false
+        → All (λ p. p < length marks.old.items) (named_by may_be_nowhere xs)
+        → AreDistinct (named ++ named_by may_be_nowhere xs)
+        → ⊥) }
     ensures count { length marks.new.items ≡ length marks.old.items }
 {
     for i in 0..count {

@@ -2,6 +2,7 @@
 //! directory and its buckets stand.
 #![tactic(auto)]
 
+mod area_pages;
 mod choosing;
 mod closing;
 mod finishing;
@@ -9,15 +10,14 @@ mod gathering;
 mod header;
 mod judging;
 mod laws;
-mod parts;
 mod reading;
 mod replacing;
 mod root;
 
+pub use area_pages::write_area_page;
 pub use closing::close_root;
 pub use finishing::finish_root;
 pub use laws::{area_law, damage_law, replacing_law};
-pub use parts::write_part;
 pub use reading::read_newest;
 pub use replacing::replace_root;
 pub use root::{NOWHERE, Root};

@@ -1,12 +1,12 @@
 //! What a root says.
 ghost use Rattle.std.specs.Prelude.{◌≡◌, ◌<◌, ◌≤◌, ◌^◌, length};
 ghost use Rattle.grid_model.specs.Lawful.{pages_named};
-ghost use Rattle.root_pages.specs.Fields as pages;
-ghost use Rattle.file_roots.specs.Roots.{fields_of};
+ghost use Rattle.root_pages.specs.Fields.{model_fields};
+ghost use Rattle.file_roots.specs.Roots.{root_fields_of};
 
 use grid_types::PageList;
 use linear_scales::Scales;
-use root_pages::RootFields;
+use root_pages::RootHeader;
 
 /// Stands in a bucket table where no bucket has the number.
 pub const NOWHERE: u32 = u32::MAX;
@@ -41,17 +41,17 @@ pub fn count_named(table: &[u32]) -> usize
 }
 
 /// The fields of a root as its header page has them.
-pub fn fields<const K: usize>(root: &Root<K>) -> RootFields<K>
+pub fn fields<const K: usize>(root: &Root<K>) -> RootHeader<K>
     requires count { length root.now.scales ≡ K }
     requires parts { length root.now.parts < 2 ^ 32 }
     requires numbers { length root.now.table < 2 ^ 32 }
-    ensures { pages.fields_of result ≡ fields_of root.now }
+    ensures { model_fields result ≡ root_fields_of root.now }
 {
     let mut boundaries = [0; K];
     for a in 0..K {
         boundaries[a] = root.scales.scale(a).boundaries().len() as u32;
     }
-    RootFields {
+    RootHeader {
         number: root.number,
         session: root.session,
         front: root.front,

@@ -9,11 +9,11 @@ use Rattle.page_fields.proofs.Entries.{AreBytes, number_is, entries_in, length-e
 use Rattle.page_fields.proofs.ZeroParts.{zeros_are}
 use Rattle.grid_model.specs.Spellings.{area_head}
 use Rattle.root_pages.specs.Areas.{entries_page}
-use Rattle.root_pages.specs.Reading.{IsHead, IsPageUpTo}
+use Rattle.root_pages.specs.Reading.{IsAreaHead, IsPageUpTo}
 use Rattle.root_pages.proofs.Heads.{head_is}
 use Rattle.root_pages.proofs.Standing.{page_is}
 
-head_joined : (kind : List ℕ) (root index count : ℕ) (page : List ℕ) → length kind ≡ 4 → IsHead kind root index count page → 96 ≤ length page → AreBytes page → page ≡ padded 96 (area_head kind index count root) ++ drop 96 page
+head_joined : (kind : List ℕ) (root index count : ℕ) (page : List ℕ) → length kind ≡ 4 → IsAreaHead kind root index count page → 96 ≤ length page → AreBytes page → page ≡ padded 96 (area_head kind index count root) ++ drop 96 page
 head_joined kind root index count page four h low fits =
     let body = drop 96 page in
     let at24 : drop 24 page ≡ replicate 72 0 ++ body = zeros_are 24 96 page (omega arith) low h.rest in

@@ -2,8 +2,8 @@
 use Rattle.std.proofs.Common.{◌≡◌, ◌<◌, ◌≤◌, ◌+◌, ◌*◌, ◌^◌, ℕ, List, length, slice_index, refl, sym, subst, ◌∙◌, codes, arith}
 use Rattle.page_fields.proofs.Entries.{AreBytes, entries_in, length-entries_in, entries_fit}
 use Rattle.grid_model.specs.Spellings.{scale_spelling, list_spelling, bucket_table_spelling}
-use Rattle.root_pages.specs.Areas.{SpellsEntries, HasEntries, entries_page}
-use Rattle.root_pages.specs.Reading.{IsPageUpTo}
+use Rattle.root_pages.specs.Areas.{SpellsEntries, SpellsScale, SpellsList, SpellsTable, HasEntries, entries_page}
+use Rattle.root_pages.specs.Reading.{IsPageUpTo, AreOn}
 use Rattle.root_pages.specs.Laws.{IsOneList}
 use Rattle.root_pages.proofs.Heads.{scale_is, list_is, table_is}
 use Rattle.root_pages.proofs.Standing.{Fits, PageAt, page_there, one_list}
@@ -68,3 +68,23 @@ module _ (w : ℕ) (kind : List ℕ) (spelling : ℕ → ℕ → List ℕ → Li
   page_up_to root index count page h =
       let at = entries_there root index page h.entries h.spelled in
       subst (λ (n : ℕ). IsPageUpTo kind root index n (96 + w * n) page) h.count_is (record { head = at.front; zeros = at.zeros })
+
+-- entries that are spelled stand on their page
+pub scale_entries : (root index count : ℕ) (page xs : List ℕ) → SpellsScale root index page xs → length xs ≡ count → AreOn 8 count page xs
+scale_entries root index count page xs s is = record { count_is = is; each = (entries_there 8 (codes "GFS1") scale_spelling 500 64 scales root index page xs s).each }
+
+pub list_entries : (root index count : ℕ) (page xs : List ℕ) → SpellsList root index page xs → length xs ≡ count → AreOn 4 count page xs
+list_entries root index count page xs s is = record { count_is = is; each = (entries_there 4 (codes "GFL1") list_spelling 1000 32 lists root index page xs s).each }
+
+pub table_entries : (root index count : ℕ) (page xs : List ℕ) → SpellsTable root index page xs → length xs ≡ count → AreOn 4 count page xs
+table_entries root index count page xs s is = record { count_is = is; each = (entries_there 4 (codes "GFT1") bucket_table_spelling 1000 32 tables root index page xs s).each }
+
+-- and are the only ones
+pub one_scale_spelled : (root index : ℕ) (page xs ys : List ℕ) → SpellsScale root index page xs → SpellsScale root index page ys → xs ≡ ys
+one_scale_spelled root index page xs ys s t = (one_list_of 8 (codes "GFS1") scale_spelling 500 64 scales root root index index page xs ys s t).entries_are
+
+pub one_list_spelled : (root index : ℕ) (page xs ys : List ℕ) → SpellsList root index page xs → SpellsList root index page ys → xs ≡ ys
+one_list_spelled root index page xs ys s t = (one_list_of 4 (codes "GFL1") list_spelling 1000 32 lists root root index index page xs ys s t).entries_are
+
+pub one_table_spelled : (root index : ℕ) (page xs ys : List ℕ) → SpellsTable root index page xs → SpellsTable root index page ys → xs ≡ ys
+one_table_spelled root index page xs ys s t = (one_list_of 4 (codes "GFT1") bucket_table_spelling 1000 32 tables root root index index page xs ys s t).entries_are

@@ -78,3 +78,7 @@ one_shape page s t x y =
     let boundaries = x.boundaries ∙ sym y.boundaries in
     let cells = x.cells ∙ sym y.cells in
     λ i. record { k = k i; capacity = capacity i; pages = pages i; slots = slots i; boundaries = boundaries i; cells = cells i }
+
+-- the shape that a header page spells is the one whose numbers stand there
+pub shape_again : (page : List ℕ) (s t : Shape) → SpellsShape page s → ShapeAt page t → s ≡ t
+shape_again page s t is at = one_shape page s t (shape_there page s is) at

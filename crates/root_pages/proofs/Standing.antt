@@ -11,7 +11,7 @@ use Rattle.page_fields.proofs.Places.{behind}
 use Rattle.page_fields.proofs.ZeroParts.{zeros_spelled}
 use Rattle.grid_model.specs.Spellings.{area_head, page}
 use Rattle.root_pages.specs.Areas.{entries_page}
-use Rattle.root_pages.specs.Reading.{IsHead}
+use Rattle.root_pages.specs.Reading.{IsAreaHead}
 use Rattle.root_pages.proofs.Heads.{head_is}
 
 -- a page of entries is its head, its entries and zeros
@@ -31,7 +31,7 @@ pub record Fits (w : ℕ) (kind : List ℕ) (root index : ℕ) (entries : List �
 
 -- each field of such a page stands at its offset
 pub record PageAt (w : ℕ) (kind : List ℕ) (root index : ℕ) (page entries : List ℕ) : Type 0 where
-  pub front : IsHead kind root index (length entries) page
+  pub front : IsAreaHead kind root index (length entries) page
   pub each : (i : ℕ) → i < length entries → slice_index entries i ≡ number w (drop (96 + w * i) page)
   pub zeros : AreZeros (96 + w * length entries) 4096 page
 

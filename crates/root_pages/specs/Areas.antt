@@ -1,6 +1,7 @@
 -- What a page of a table area says.
 use Rattle.std.specs.Prelude.{◌≡◌, ◌<◌, ◌≤◌, ◌^◌, ℕ, List, length, slice_index}
 use Rattle.std.specs.List.{flat_map}
+use Rattle.grid_types.specs.declared.sizes.TheConstants.{NUMBERS_ON_PAGE, WORDS_ON_PAGE}
 use Rattle.page_fields.specs.Fields.{bytes_of}
 use Rattle.grid_model.specs.Spellings.{area_head, page, scale_spelling, list_spelling, bucket_table_spelling}
 
@@ -16,17 +17,17 @@ pub record SpellsEntries (spelling : ℕ → ℕ → List ℕ → List ℕ) (mos
   pub few : length entries ≤ most
   pub bytes : page ≡ spelling root index entries
 
--- a page spells these boundaries of a scale, which are at most 500 and have 64 bits
+-- a page spells these boundaries of a scale, which are as many as fit on it at most, and have 64 bits
 abbrev pub SpellsScale : ℕ → ℕ → List ℕ → List ℕ → Type 0
-SpellsScale root index page boundaries = SpellsEntries scale_spelling 500 64 root index page boundaries
+SpellsScale root index page boundaries = SpellsEntries scale_spelling NUMBERS_ON_PAGE 64 root index page boundaries
 
--- a page spells these data pages of directory parts, which are at most a thousand and have 32 bits
+-- a page spells these data pages of directory parts, which are as many as fit on it at most, and have 32 bits
 abbrev pub SpellsList : ℕ → ℕ → List ℕ → List ℕ → Type 0
-SpellsList root index page pages = SpellsEntries list_spelling 1000 32 root index page pages
+SpellsList root index page pages = SpellsEntries list_spelling WORDS_ON_PAGE 32 root index page pages
 
--- a page spells these data pages of bucket numbers, which are at most a thousand and have 32 bits
+-- a page spells these data pages of bucket numbers, which are as many as fit on it at most, and have 32 bits
 abbrev pub SpellsTable : ℕ → ℕ → List ℕ → List ℕ → Type 0
-SpellsTable root index page pages = SpellsEntries bucket_table_spelling 1000 32 root index page pages
+SpellsTable root index page pages = SpellsEntries bucket_table_spelling WORDS_ON_PAGE 32 root index page pages
 
 -- a page has so many entries: there are as many that it spells
 pub record HasEntries (spells : List ℕ → List ℕ → Type 0) (count : ℕ) (page : List ℕ) : Type 0 where

@@ -15,6 +15,10 @@ pub record SpellsRoot (s : Shape) (header : ℕ) (page : List ℕ) (r : RootFiel
   pub lawful : IsRootOn s header r
   pub bytes : take 56 (drop 72 page) ≡ root_bytes r
 
+-- a header page of a file of this shape spells no root
+abbrev pub SpellsNoRoot : Shape → ℕ → List ℕ → Type 0
+SpellsNoRoot s header page = (r : RootFields) → SpellsRoot s header page r → ⊥
+
 -- root fields of K attributes are in range: each number fits into its bytes
 pub record AreInRange (K : ℕ) (r : RootFields) : Type 0 where
   pub number : r.number < 2 ^ 64

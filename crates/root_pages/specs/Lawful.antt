@@ -1,6 +1,7 @@
 -- Parts of what makes the fields of a root lawful.
-use Rattle.std.specs.Prelude.{◌≡◌, ◌<◌, ◌≤◌, ◌^◌, ◌+◌, ◌*◌, ◌/◌, ◌%◌, ℕ, List, slice_index}
+use Rattle.std.specs.Prelude.{◌≡◌, ◌<◌, ◌≤◌, ◌^◌, ◌*◌, ◌%◌, ℕ, List, slice_index}
 use Rattle.grid_types.specs.declared.shape.Shape.{Shape}
+use Rattle.grid_types.specs.Shapes.{word_pages}
 use Rattle.grid_model.specs.Spellings.{RootFields}
 use Rattle.grid_model.specs.Lawful.{cells_of_counts}
 
@@ -18,7 +19,7 @@ pub record HasNumbers (header : ℕ) (r : RootFields) : Type 0 where
 -- the cells are within their limit, the parts are those of the cells, and buckets and records are within their limits
 pub record HasCounts (shape : Shape) (r : RootFields) : Type 0 where
   pub few_cells : cells_of_counts r.boundaries ≤ shape.cells
-  pub parts : r.parts ≡ (cells_of_counts r.boundaries + 999) / 1000
+  pub parts : r.parts ≡ word_pages (cells_of_counts r.boundaries)
   pub some_buckets : 1 ≤ r.buckets
   pub few_buckets : r.buckets < shape.pages
   pub records : r.records ≤ r.buckets * shape.capacity

@@ -1,6 +1,7 @@
 -- What stands in the bytes of header pages and of table areas, at each place.
 use Rattle.std.specs.Prelude.{◌≡◌, ◌<◌, ◌+◌, ◌*◌, ℕ, List, length, take, drop, slice_index}
 use Rattle.grid_types.specs.declared.shape.Shape.{Shape}
+use Rattle.grid_types.specs.declared.sizes.TheConstants.{PAGE_BYTES, HEAD_BYTES}
 use Rattle.page_fields.specs.Fields.{number, AreZeros}
 use Rattle.grid_model.specs.Spellings.{RootFields}
 
@@ -24,15 +25,20 @@ pub record FieldsAt (at : ℕ) (page : List ℕ) (r : RootFields) : Type 0 where
   pub buckets : r.buckets ≡ number 4 (drop (at + 52) page)
 
 -- the front of a page is the head of a page of a table area: each field stands at its offset, and zeros between and behind them
-pub record IsHead (kind : List ℕ) (root index count : ℕ) (page : List ℕ) : Type 0 where
+pub record IsAreaHead (kind : List ℕ) (root index count : ℕ) (page : List ℕ) : Type 0 where
   pub kind_is : take 4 page ≡ kind
   pub index_is : number 4 (drop 4 page) ≡ index
   pub count_is : number 4 (drop 8 page) ≡ count
   pub gap : AreZeros 12 16 page
   pub root_is : number 8 (drop 16 page) ≡ root
-  pub rest : AreZeros 24 96 page
+  pub rest : AreZeros 24 HEAD_BYTES page
 
 -- a page has that head, and zeros from an end on
 pub record IsPageUpTo (kind : List ℕ) (root index count end : ℕ) (page : List ℕ) : Type 0 where
-  pub head : IsHead kind root index count page
-  pub zeros : AreZeros end 4096 page
+  pub head : IsAreaHead kind root index count page
+  pub zeros : AreZeros end PAGE_BYTES page
+
+-- these are so many entries of w bytes, as they stand on a page of a table area
+pub record AreOn (w count : ℕ) (page entries : List ℕ) : Type 0 where
+  pub count_is : length entries ≡ count
+  pub each : (i : ℕ) → i < length entries → slice_index entries i ≡ number w (drop (HEAD_BYTES + w * i) page)

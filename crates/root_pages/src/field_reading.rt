@@ -1,20 +1,19 @@
 //! The gate of a header page, and what it says of a root.
 ghost use Rattle.std.specs.Prelude.{◌≡◌, ◌≤◌, ◌<◌, ◌^◌, ◌+◌, ◌*◌, ◌↔◌, ℕ, IsTrue, IfSome, IfNone, length, take, drop, slice_index};
-ghost use Rattle.grid_types.specs.Shapes.{is_shape};
+ghost use Rattle.grid_types.specs.declared.sizes.TheConstants.{MOST_ATTRIBUTES};
 ghost use Rattle.page_fields.specs.Fields.{number};
-ghost use Rattle.grid_model.specs.Spellings.{root_bytes};
-ghost use Rattle.grid_model.specs.Spellings as model;
-ghost use Rattle.root_pages.specs.Fields.{fields_of};
-ghost use Rattle.root_pages.specs.Headers.{SpellsRoot};
+ghost use Rattle.grid_model.specs.Spellings.{RootFields, root_bytes};
+ghost use Rattle.root_pages.specs.Fields.{model_fields};
+ghost use Rattle.root_pages.specs.Headers.{SpellsRoot, SpellsNoRoot};
 ghost use Rattle.root_pages.specs.Reading.{FieldsAt};
 
 use crate::lawful::is_lawful;
-use crate::{RootFields, encode_fields};
-use grid_types::Shape;
+use crate::{RootHeader, encode_fields};
+use grid_types::{Geometry, PAGE_BYTES};
 use page_fields::{get_u32, get_u64};
 
 /// Whether the gate of the header page is open. Any value but 1 is closed.
-pub fn is_open(page: &[u8; 4096]) -> bool
+pub fn is_open(page: &[u8; PAGE_BYTES]) -> bool
     ensures { IsTrue result ↔ (slice_index page.now 64 ≡ 1) }
 {
     page[64] == 1
@@ -22,15 +21,18 @@ pub fn is_open(page: &[u8; 4096]) -> bool
 
 /// The number of the root of which the header page speaks. It says nothing of the other fields, which `decode_fields`
 /// judges.
-pub fn root_number(page: &[u8; 4096]) -> u64
+pub fn root_number(page: &[u8; PAGE_BYTES]) -> u64
     ensures number { result ≡ number 8 (drop 72 page.now) }
-    ensures root { (r : model.RootFields) → take 56 (drop 72 page.now) ≡ root_bytes r → r.number < 2 ^ 64 → result ≡ r.number }
+    ensures root { (r : RootFields)
+        → take 56 (drop 72 page.now) ≡ root_bytes r
+        → r.number < 2 ^ 64
+        → result ≡ r.number }
 {
     get_u64(page, 72)
 }
 
-fn counts_in<const K: usize>(page: &[u8; 4096]) -> [u32; K]
-    requires { K ≤ 4 }
+fn counts_in<const K: usize>(page: &[u8; PAGE_BYTES]) -> [u32; K]
+    requires { K ≤ MOST_ATTRIBUTES }
     ensures { (a : ℕ) → a < K → slice_index result a ≡ number 4 (drop (104 + 4 * a) page.now) }
 {
     let mut counts = [0; K];
@@ -41,12 +43,12 @@ fn counts_in<const K: usize>(page: &[u8; 4096]) -> [u32; K]
 }
 
 /// The numbers that stand where a header page has those of a root, whether lawful or not.
-fn fields_in<const K: usize>(page: &[u8; 4096]) -> RootFields<K>
-    requires { K ≤ 4 }
-    ensures at { FieldsAt 72 page.now (fields_of result) }
+fn fields_in<const K: usize>(page: &[u8; PAGE_BYTES]) -> RootHeader<K>
+    requires { K ≤ MOST_ATTRIBUTES }
+    ensures at { FieldsAt 72 page.now (model_fields result) }
     ensures count { length result.boundaries ≡ K }
 {
-    RootFields {
+    RootHeader {
         number: get_u64(page, 72),
         session: get_u64(page, 80),
         front: get_u64(page, 88),
@@ -58,9 +60,9 @@ fn fields_in<const K: usize>(page: &[u8; 4096]) -> RootFields<K>
 }
 
 /// Whether the header page has the one spelling of these fields.
-fn is_spelled<const K: usize>(page: &[u8; 4096], fields: &RootFields<K>) -> bool
-    requires { K ≤ 4 }
-    ensures { IsTrue result ↔ (take 56 (drop 72 page.now) ≡ root_bytes (fields_of fields.now)) }
+fn is_spelled<const K: usize>(page: &[u8; PAGE_BYTES], fields: &RootHeader<K>) -> bool
+    requires { K ≤ MOST_ATTRIBUTES }
+    ensures { IsTrue result ↔ (take 56 (drop 72 page.now) ≡ root_bytes (model_fields fields.now)) }
 {
     let mut again = [0; 56];
     encode_fields(fields, &mut again);
@@ -71,19 +73,20 @@ fn is_spelled<const K: usize>(page: &[u8; 4096], fields: &RootFields<K>) -> bool
 /// the gate is not looked at.
 #[tactic(auto, using(crate::proofs::Roots::few_attributes))]
 pub fn decode_fields<const K: usize>(
-    page: &[u8; 4096],
-    shape: &Shape,
+    page: &[u8; PAGE_BYTES],
+    geometry: &Geometry,
     header: u8,
-) -> Option<RootFields<K>>
-    requires lawful { IsTrue (is_shape shape.now) }
-    requires attributes { shape.now.k ≡ K }
+) -> Option<RootHeader<K>>
+    requires attributes { geometry.now.shape.k ≡ K }
     requires two { header < 2 }
-    ensures found { IfSome result (λ f. SpellsRoot shape.now header page.now (fields_of f)) }
-    ensures only { IfSome result (λ f. (r : model.RootFields) → SpellsRoot shape.now header page.now r → r ≡ fields_of f) }
-    ensures none { IfNone result ((r : model.RootFields) → SpellsRoot shape.now header page.now r → ⊥) }
+    ensures found { IfSome result (λ f. SpellsRoot geometry.now.shape header page.now (model_fields f)) }
+    ensures only { IfSome result (λ f. (r : RootFields)
+        → SpellsRoot geometry.now.shape header page.now r
+        → r ≡ model_fields f) }
+    ensures none { IfNone result (SpellsNoRoot geometry.now.shape header page.now) }
 {
     let fields = fields_in(page);
-    if !is_lawful(&fields, shape, header) {
+    if !is_lawful(&fields, geometry, header) {
         return None;
     }
     if !is_spelled(page, &fields) {

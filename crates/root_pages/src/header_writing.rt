@@ -1,24 +1,24 @@
 //! The bytes of a header page.
-ghost use Rattle.std.specs.Prelude.{◌≡◌, ◌≤◌, ◌+◌, ◌-◌, ◌*◌, ◌++◌, replicate, IsTrue, slice_index, take};
-ghost use Rattle.grid_types.specs.Shapes.{is_shape};
+ghost use Rattle.std.specs.Prelude.{◌≡◌, ◌≤◌, ◌+◌, ◌-◌, ◌*◌, ◌++◌, replicate, slice_index, take};
+ghost use Rattle.grid_types.specs.declared.sizes.TheConstants.{PAGE_BYTES, MOST_ATTRIBUTES};
 ghost use Rattle.page_fields.specs.Fields.{bytes_of};
 ghost use Rattle.page_fields.specs.Padded.{padded, numbers};
 ghost use Rattle.grid_model.specs.Spellings.{shape_bytes, root_bytes};
-ghost use Rattle.root_pages.specs.Fields.{fields_of};
+ghost use Rattle.root_pages.specs.Fields.{model_fields};
 
-use crate::RootFields;
+use crate::RootHeader;
 use byteorder::{BigEndian, ByteOrder};
-use grid_types::Shape;
+use grid_types::{Geometry, PAGE_BYTES};
 use page_fields::{put_bytes, put_zeros, set_u16, set_u32};
 
 /// Makes `page` the header page of a new file of this shape, whatever it was before: its gate is closed, and it says
 /// nothing of a root.
-pub fn encode_header(shape: &Shape, page: &mut [u8; 4096])
-    requires { IsTrue (is_shape shape.now) }
-    ensures written { page.new ≡ padded 4096 (shape_bytes shape.now) }
-    ensures front { take 64 page.new ≡ shape_bytes shape.now }
+pub fn encode_header(geometry: &Geometry, page: &mut [u8; PAGE_BYTES])
+    ensures written { page.new ≡ padded PAGE_BYTES (shape_bytes geometry.now.shape) }
+    ensures front { take 64 page.new ≡ shape_bytes geometry.now.shape }
     ensures closed { slice_index page.new 64 ≡ 0 }
 {
+    let shape = &geometry.shape;
     put_bytes(page, 0, b"GRIDFILE");
     set_u16(page, 8, 1);
     put_bytes(page, 10, &[shape.k, 0]);
@@ -28,7 +28,7 @@ pub fn encode_header(shape: &Shape, page: &mut [u8; 4096])
     set_u32(page, 20, shape.slots);
     set_u32(page, 24, shape.boundaries);
     set_u32(page, 28, shape.cells);
-    put_zeros(page, 32, 4096);
+    put_zeros(page, 32, PAGE_BYTES);
 }
 
 fn put_u64(bytes: &mut [u8; 56], at: usize, v: u64)
@@ -55,7 +55,7 @@ fn clear(bytes: &mut [u8; 56], from: usize, to: usize)
 
 /// Writes how many boundaries each scale has, and zeros for the scales that there are not.
 fn put_counts<const K: usize>(bytes: &mut [u8; 56], counts: &[u32; K])
-    requires { K ≤ 4 }
+    requires { K ≤ MOST_ATTRIBUTES }
     ensures { take 48 bytes.new ≡ take 32 bytes.old ++ padded 16 (numbers 4 counts.now) }
 {
     for a in 0..K {
@@ -65,9 +65,9 @@ fn put_counts<const K: usize>(bytes: &mut [u8; 56], counts: &[u32; K])
 }
 
 /// Makes `bytes` the fields of a root as a header page has them from byte 72 on.
-pub fn encode_fields<const K: usize>(fields: &RootFields<K>, bytes: &mut [u8; 56])
-    requires { K ≤ 4 }
-    ensures { bytes.new ≡ root_bytes (fields_of fields.now) }
+pub fn encode_fields<const K: usize>(fields: &RootHeader<K>, bytes: &mut [u8; 56])
+    requires { K ≤ MOST_ATTRIBUTES }
+    ensures { bytes.new ≡ root_bytes (model_fields fields.now) }
 {
     put_u64(bytes, 0, fields.number);
     put_u64(bytes, 8, fields.session);

@@ -1,4 +1,5 @@
 //! The laws of the spellings, as the contract of a function without code.
+ghost use Rattle.grid_types.specs.declared.sizes.TheConstants.{NUMBERS_ON_PAGE, WORDS_ON_PAGE};
 ghost use Rattle.grid_model.specs.Spellings.{scale_spelling, list_spelling, bucket_table_spelling};
 ghost use Rattle.root_pages.specs.Laws.{SpellsOneShape, SpellsOneRoot, SpellsOneList};
 
@@ -7,7 +8,7 @@ ghost use Rattle.root_pages.specs.Laws.{SpellsOneShape, SpellsOneRoot, SpellsOne
 pub fn spelling_law()
     ensures shapes { SpellsOneShape }
     ensures roots { SpellsOneRoot }
-    ensures scales { SpellsOneList scale_spelling 500 64 }
-    ensures lists { SpellsOneList list_spelling 1000 32 }
-    ensures tables { SpellsOneList bucket_table_spelling 1000 32 }
+    ensures scales { SpellsOneList scale_spelling NUMBERS_ON_PAGE 64 }
+    ensures lists { SpellsOneList list_spelling WORDS_ON_PAGE 32 }
+    ensures tables { SpellsOneList bucket_table_spelling WORDS_ON_PAGE 32 }
 {}

@@ -1,5 +1,5 @@
 use super::*;
-use grid_types::Shape;
+use grid_types::{Geometry, PAGE_BYTES, Shape};
 use std::test::*;
 
 const SHAPE: Shape = Shape {
@@ -11,7 +11,7 @@ const SHAPE: Shape = Shape {
     cells: 1_000_000,
 };
 
-const FIELDS: RootFields<2> = RootFields {
+const FIELDS: RootHeader<2> = RootHeader {
     number: 258,
     session: 7,
     front: 65536,
@@ -21,32 +21,22 @@ const FIELDS: RootFields<2> = RootFields {
     buckets: 5,
 };
 
-/// The page of a new file of this shape, where it is lawful.
-fn new_page(shape: &Shape) -> Option<[u8; 4096]> {
-    if !shape.lawful() {
-        return None;
-    }
-    let mut page = [9; 4096];
-    encode_header(shape, &mut page);
-    Some(page)
-}
-
-/// The root fields of a page, where they are lawful, and the shape and the header page are.
+/// The root fields of a page of a file of this shape, where all is lawful.
 fn lawful_fields<const K: usize>(
-    page: &[u8; 4096],
-    shape: &Shape,
+    page: &[u8; PAGE_BYTES],
+    shape: Shape,
     header: u8,
-) -> Option<RootFields<K>> {
-    if !shape.lawful() {
+) -> Option<RootHeader<K>> {
+    let Some(geometry) = Geometry::new(shape) else {
         return None;
-    }
+    };
     if shape.k as usize != K {
         return None;
     }
     if header > 1 {
         return None;
     }
-    decode_fields(page, shape, header)
+    decode_fields(page, &geometry, header)
 }
 
 /// The bytes of that page's shape that can change by 1 and be those of another shape.
@@ -55,27 +45,29 @@ const OTHER_SHAPES: [usize; 8] = [10, 13, 18, 19, 22, 23, 26, 29];
 #[test]
 fn a_header_is_laid_out(rt: HostRuntime) -> Result<(), Fail> {
     spelling_law();
-    let page = new_page(&SHAPE).ok_or("the shape is lawful")?;
-    let mut expected = [0; 4096];
+    let geometry = Geometry::new(SHAPE).ok_or("the shape is lawful")?;
+    let mut page = [9; PAGE_BYTES];
+    encode_header(&geometry, &mut page);
+    let mut expected = [0; PAGE_BYTES];
     expected[..10].copy_from_slice(&[0x47, 0x52, 0x49, 0x44, 0x46, 0x49, 0x4c, 0x45, 0, 1]);
     expected[10..16].copy_from_slice(&[2, 0, 0, 3, 0, 0]);
     expected[16..24].copy_from_slice(&[0, 0, 0, 64, 0, 0, 0, 8]);
     expected[24..32].copy_from_slice(&[0, 0, 3, 0xe8, 0, 0x0f, 0x42, 0x40]);
     assert!(rt; page == expected);
-    assert!(rt; decode_shape(&page) == Some(SHAPE));
+    assert!(rt; decode_shape(&page) == Some(geometry));
     assert!(rt; !is_open(&page));
     for i in 0..64 {
         let mut other = page;
         other[i] ^= 1;
-        assert!(rt; decode_shape(&other) != Some(SHAPE));
+        assert!(rt; decode_shape(&other) != Some(geometry));
         assert_eq!(rt; decode_shape(&other).is_none(), !OTHER_SHAPES.contains(&i));
     }
     Ok(())
 }
 
 /// The header page with the fields of a root, by hand.
-fn root_page() -> [u8; 4096] {
-    let mut page = [0; 4096];
+fn root_page() -> [u8; PAGE_BYTES] {
+    let mut page = [0; PAGE_BYTES];
     page[78..80].copy_from_slice(&[1, 2]);
     page[87] = 7;
     page[93] = 1;
@@ -94,8 +86,8 @@ fn root_fields_are_laid_out(rt: HostRuntime) -> Result<(), Fail> {
     encode_fields(&FIELDS, &mut bytes);
     assert!(rt; bytes[..] == page[72..128]);
     assert_eq!(rt; root_number(&page), 258);
-    assert!(rt; lawful_fields(&page, &SHAPE, 0) == Some(FIELDS));
-    assert!(rt; lawful_fields::<2>(&page, &SHAPE, 1) == None);
+    assert!(rt; lawful_fields(&page, SHAPE, 0) == Some(FIELDS));
+    assert!(rt; lawful_fields::<2>(&page, SHAPE, 1) == None);
     page[64] = 1;
     assert!(rt; is_open(&page));
     page[64] = 255;
@@ -120,38 +112,28 @@ const UNLAWFUL: [(u8, u8); 13] = [
     (127, 64),
 ];
 
+/// The header page with that root, but for the last number and the last front that a root has.
+fn last_page() -> [u8; PAGE_BYTES] {
+    let mut page = root_page();
+    page[72] = 0x80;
+    page[78] = 0;
+    page[79] = 0;
+    page[88..96].copy_from_slice(&[0x7f, 255, 255, 255, 255, 255, 255, 255]);
+    page
+}
+
 #[test]
 fn unlawful_fields_are_refused(rt: HostRuntime) -> Result<(), Fail> {
     for (i, byte) in UNLAWFUL {
         let mut page = root_page();
         page[i as usize] = byte;
-        assert!(rt; lawful_fields::<2>(&page, &SHAPE, 0) == None);
+        assert!(rt; lawful_fields::<2>(&page, SHAPE, 0) == None);
     }
-    let mut page = root_page();
-    page[72] = 0x80;
-    page[78] = 0;
-    page[79] = 0;
+    let page = last_page();
     let mut last = FIELDS;
     last.number = 1 << 63;
-    assert!(rt; lawful_fields(&page, &SHAPE, 0) == Some(last));
-    Ok(())
-}
-
-/// The header page with that root, but for these bytes of its front.
-fn with_front(front: &[u8; 8]) -> [u8; 4096] {
-    let mut page = root_page();
-    page[88..96].copy_from_slice(front);
-    page
-}
-
-#[test]
-fn a_front_is_below_2_to_the_63(rt: HostRuntime) -> Result<(), Fail> {
-    let mut last = FIELDS;
     last.front = (1 << 63) - 1;
-    let page = with_front(&[0x7f, 255, 255, 255, 255, 255, 255, 255]);
-    assert!(rt; lawful_fields(&page, &SHAPE, 0) == Some(last));
-    let page = with_front(&[0x80, 0, 0, 0, 0, 0, 0, 0]);
-    assert!(rt; lawful_fields::<2>(&page, &SHAPE, 0) == None);
+    assert!(rt; lawful_fields(&page, SHAPE, 0) == Some(last));
     Ok(())
 }
 
@@ -160,23 +142,23 @@ fn a_directory_has_no_more_cells_than_the_shape(rt: HostRuntime) -> Result<(), F
     let page = root_page();
     let mut shape = SHAPE;
     shape.cells = 4 * 501;
-    assert!(rt; lawful_fields(&page, &shape, 0) == Some(FIELDS));
+    assert!(rt; lawful_fields(&page, shape, 0) == Some(FIELDS));
     shape.cells = 4 * 501 - 1;
-    assert!(rt; lawful_fields::<2>(&page, &shape, 0) == None);
+    assert!(rt; lawful_fields::<2>(&page, shape, 0) == None);
     Ok(())
 }
 
 #[test]
 fn pages_of_a_table_area_are_laid_out(rt: HostRuntime) -> Result<(), Fail> {
-    let mut expected = [0; 4096];
+    let mut expected = [0; PAGE_BYTES];
     expected[..12].copy_from_slice(&[0x47, 0x46, 0x53, 0x31, 0, 0, 0, 3, 0, 0, 0, 2]);
     expected[16..24].copy_from_slice(&[1, 2, 3, 4, 5, 6, 7, 8]);
     expected[96..112].copy_from_slice(&[0, 0, 0, 0, 0, 0, 0, 5, 255, 0, 0, 0, 0, 0, 0, 6]);
-    let mut page = [9; 4096];
+    let mut page = [9; PAGE_BYTES];
     encode_scale(0x0102030405060708, 3, &[5, 0xff00000000000006], &mut page);
     assert!(rt; page == expected);
     assert_eq!(rt; boundary_at(&page, 1), 0xff00000000000006);
-    for i in 0..4096 {
+    for i in 0..PAGE_BYTES {
         let mut other = page;
         other[i] ^= 1;
         assert_eq!(rt;
@@ -189,11 +171,11 @@ fn pages_of_a_table_area_are_laid_out(rt: HostRuntime) -> Result<(), Fail> {
 
 #[test]
 fn data_pages_are_laid_out(rt: HostRuntime) -> Result<(), Fail> {
-    let mut expected = [0; 4096];
+    let mut expected = [0; PAGE_BYTES];
     expected[..12].copy_from_slice(&[0x47, 0x46, 0x4c, 0x31, 0, 0, 0, 8, 0, 0, 0, 2]);
     expected[23] = 9;
     expected[96..104].copy_from_slice(&[0, 0, 0, 5, 255, 255, 255, 255]);
-    let mut page = [9; 4096];
+    let mut page = [9; PAGE_BYTES];
     encode_list(9, 8, &[5, u32::MAX], &mut page);
     assert!(rt; page == expected);
     assert!(rt; is_list_page(&page, 9, 8, 2));

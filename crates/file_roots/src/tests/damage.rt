@@ -1,11 +1,10 @@
-ghost use Rattle.std.specs.Prelude.{◌≡◌, ◌<◌, ◌≤◌, ◌+◌, ◌*◌, IsTrue};
-ghost use Rattle.grid_types.specs.Shapes.{is_shape, file_pages};
+//! Pages that are damaged, and which is named.
+ghost use Rattle.std.specs.Prelude.{◌≡◌, ◌<◌, ◌≤◌, ◌*◌};
+ghost use Rattle.grid_types.specs.declared.sizes.TheConstants.{PAGE_BYTES};
+ghost use Rattle.grid_types.specs.Shapes.{file_pages};
 ghost use Rattle.disk_memory.specs.Memories.{extent_of};
 
 use super::*;
-use std::marker::Brand;
-use std::sync::ledger::Blank;
-use std::test::*;
 
 /// A byte that is another, and what is told then: the number of the newest root, or 1000 and the page that is damaged.
 #[derive(Clone, Copy)]
@@ -45,17 +44,16 @@ fn is_judged<L: Ledger>(
     case: Case,
     steps: &mut Steps<L>,
 ) -> bool
-    requires lawful { IsTrue (is_shape geometry.now.shape) }
     requires attributes { geometry.now.shape.k ≡ ATTRIBUTES }
-    requires size { file_pages geometry.now.shape * 4096 ≤ extent_of disk.old }
+    requires size { file_pages geometry.now.shape * PAGE_BYTES ≤ extent_of disk.old }
     ensures size { extent_of disk.new ≡ extent_of disk.old }
 {
-    let at = u64::from(case.page) * 4096 + u64::from(case.offset);
+    let at = u64::from(case.page) * PAGE_BYTES as u64 + u64::from(case.offset);
     if at >= disk.size() {
         return false;
     }
     let kept = put_byte(disk, at, case.byte);
-    let told = verdict(alloc, disk, geometry, steps);
+    let told = told(alloc, disk, geometry, steps).number;
     let _ = put_byte(disk, at, kept);
     told == case.told
 }
@@ -98,43 +96,32 @@ fn large_cases() -> [Case; 5] {
 }
 
 /// Whether each case of a small file has its verdict, and page 0 is named where no gate is open.
-fn is_named_in_a_small_file<L: Ledger>(alloc: Global, blank: Blank) -> Result<bool, AllocError>
-    requires name { blank.name ≡ L.name }
-    requires parts { blank.parts ≡ L.parts }
-    requires some { 0 < L.parts }
-{
+pub fn is_named_in_a_small_file<L: Ledger>(
+    alloc: Global,
+    steps: &mut Steps<L>,
+) -> Result<bool, AllocError> {
     let geometry = small();
-    let mut steps = Steps::<L>::new(blank);
     let mut disk = small_file(alloc)?;
-    let mut all = advance(alloc, &mut disk, &geometry, &mut steps);
-    all &= advance(alloc, &mut disk, &geometry, &mut steps);
+    let mut all = advance(alloc, &mut disk, &geometry, steps);
+    all &= advance(alloc, &mut disk, &geometry, steps);
     for case in small_cases() {
-        all &= is_judged(alloc, &mut disk, &geometry, case, &mut steps);
+        all &= is_judged(alloc, &mut disk, &geometry, case, steps);
     }
     let _ = put_byte(&mut disk, 64, 0);
     let _ = put_byte(&mut disk, 4096 + 64, 0);
-    Ok(all & (verdict(alloc, &mut disk, &geometry, &mut steps) == 1000))
+    Ok(all & (told(alloc, &mut disk, &geometry, steps).number == 1000))
 }
 
 /// Whether each case of a large file has its verdict.
-fn is_named_in_a_large_file<L: Ledger>(alloc: Global, blank: Blank) -> Result<bool, AllocError>
-    requires name { blank.name ≡ L.name }
-    requires parts { blank.parts ≡ L.parts }
-    requires some { 0 < L.parts }
-{
+pub fn is_named_in_a_large_file<L: Ledger>(
+    alloc: Global,
+    steps: &mut Steps<L>,
+) -> Result<bool, AllocError> {
     let geometry = large();
-    let mut steps = Steps::<L>::new(blank);
     let mut disk = large_file(alloc)?;
     let mut all = true;
     for case in large_cases() {
-        all &= is_judged(alloc, &mut disk, &geometry, case, &mut steps);
+        all &= is_judged(alloc, &mut disk, &geometry, case, steps);
     }
     Ok(all)
-}
-
-#[test]
-fn damage_is_named(rt: HostRuntime) -> Result<(), Fail> {
-    assert!(rt; is_named_in_a_small_file::<Brand>(rt.alloc(), Blank::new(1))?);
-    assert!(rt; is_named_in_a_large_file::<Brand>(rt.alloc(), Blank::new(1))?);
-    Ok(())
 }

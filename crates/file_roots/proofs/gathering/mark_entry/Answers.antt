@@ -1,9 +1,10 @@
 use Rattle.std.proofs.Common.{◌<◌, ◌++◌, ◌∷◌, [], ◌∙◌, length, sym, ap, subst, arith}
 use Rattle.std.specs.Prelude.{All}
 use Rattle.std.proofs.lemmas.List.{append-nil}
+use Rattle.std.proofs.lemmas.List.Elements.{All-nil, All-cons}
 use Rattle.grid_model.specs.Lists.{AreDistinct}
 use Rattle.file_roots.specs.Gathering.{AreMarked}
-use Rattle.file_roots.proofs.Marking.{entry_named, entry_nowhere, all_none, all_one}
+use Rattle.file_roots.proofs.Marking.{entry_named, entry_nowhere}
 use Rattle.file_roots.proofs.gathering.mark_entry.Goals as goal
 
 pub returns-then-entry-eq-NOWHERE-clause-marked : goal.returns-then-entry-eq-NOWHERE-clause-marked
@@ -12,7 +13,7 @@ returns-then-entry-eq-NOWHERE-clause-marked c = λ named m yes.
 
 pub returns-then-entry-eq-NOWHERE-clause-inside : goal.returns-then-entry-eq-NOWHERE-clause-inside
 returns-then-entry-eq-NOWHERE-clause-inside c = λ yes.
-    subst (All (λ p. p < length c.args.marks.now.items)) (sym (entry_nowhere c.args.may_be_nowhere c.args.entry c.if-may_be_nowhere.true c.if-entry-eq-NOWHERE.true)) (all_none (λ p. p < length c.args.marks.now.items))
+    subst (All (λ p. p < length c.args.marks.now.items)) (sym (entry_nowhere c.args.may_be_nowhere c.args.entry c.if-may_be_nowhere.true c.if-entry-eq-NOWHERE.true)) (All-nil (λ p. p < length c.args.marks.now.items))
 
 pub returns-clause-marked : goal.returns-clause-marked
 returns-clause-marked c = λ named m yes.
@@ -20,7 +21,7 @@ returns-clause-marked c = λ named m yes.
 
 pub returns-clause-inside : goal.returns-clause-inside
 returns-clause-inside c = λ yes.
-    subst (All (λ p. p < length c.args.marks.now.items)) (sym (entry_named c.args.may_be_nowhere c.args.entry c.else-may_be_nowhere.either)) (all_one (λ p. p < length c.args.marks.now.items) c.args.entry (c.mark.ensures.inside yes))
+    subst (All (λ p. p < length c.args.marks.now.items)) (sym (entry_named c.args.may_be_nowhere c.args.entry c.else-may_be_nowhere.either)) (All-cons (λ p. p < length c.args.marks.now.items) c.args.entry [] (c.mark.ensures.inside yes) (All-nil (λ p. p < length c.args.marks.now.items)))
 
 pub returns-clause-refused : goal.returns-clause-refused
 returns-clause-refused c = λ named more m no all distinct.

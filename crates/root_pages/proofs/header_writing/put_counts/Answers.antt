@@ -6,7 +6,7 @@ use Rattle.page_fields.proofs.BytesOf.{numbers_none, numbers_more, padded_is, le
 use Rattle.root_pages.proofs.header_writing.put_counts.Goals as goal
 
 pub loop-a-init : goal.loop-a-init
-loop-a-init g c = sym (ap (λ (w : List ℕ). take 32 c.args.bytes.now ++ w) numbers_none 4 ∙ append-nil (take 32 c.args.bytes.now))
+loop-a-init g c = sym (ap (λ (w : List ℕ). take 32 c.args.bytes.now ++ w) (numbers_none 4) ∙ append-nil (take 32 c.args.bytes.now))
 
 pub loop-a-preserved : goal.loop-a-preserved
 loop-a-preserved g c =

@@ -1,0 +1,66 @@
+-- Facts of what one of two results is, where both are answers or both are refusals.
+use Rattle.std.proofs.Common.{◌≡◌, ◌∙◌, true, false, true≢false, refl, sym, ap, Result, Ok, Err}
+use Rattle.std.specs.Prelude.{OnOk, OnErr, is_ok, IfOk, IfErr, IsErr, IsErrAnd, IsErrOf}
+use Rattle.std.proofs.lemmas.Result.{IfErr-at_err}
+use Rattle.grid_types.specs.declared.refusal.Refusal.{Refusal}
+
+-- what is said of an answer holds of the other result's, too
+pub on_ok_also : {T U E F P Q : Type 0} (r : Result T E) (q : Result U F) → is_ok q ≡ is_ok r → (P → Q) → OnOk r P → OnOk q Q
+on_ok_also (Ok x) (Ok y) same then p = then p
+on_ok_also (Ok x) (Err y) same then p = tt
+on_ok_also (Err x) (Ok y) same then p = absurd (true≢false same)
+on_ok_also (Err x) (Err y) same then p = tt
+
+-- two facts of an answer are one
+pub on_ok_both : {T E P Q R : Type 0} (r : Result T E) → (P → Q → R) → OnOk r P → OnOk r Q → OnOk r R
+on_ok_both (Ok x) then p q = then p q
+on_ok_both (Err e) then p q = tt
+
+-- what is said of an answer holds where there is one
+pub on_ok_there : {T E P : Type 0} (r : Result T E) → is_ok r ≡ true → OnOk r P → P
+on_ok_there (Ok x) there p = p
+on_ok_there (Err e) there p = absurd (true≢false (sym there))
+
+-- what is said of a failure's value holds where there is one
+pub if_err_there : {T E : Type 0} {P : E → Type 0} (r : Result T E) → is_ok r ≡ false → IfErr r P → (e : E) × P e
+if_err_there (Ok x) there p = absurd (true≢false there)
+if_err_there (Err e) there p = (e, p)
+
+-- what is said of a failure holds where it always does
+pub on_err : {T E P : Type 0} (r : Result T E) → P → OnErr r P
+on_err (Ok t) p = tt
+on_err (Err e) p = p
+
+-- what is said of a failure holds of the other result's, too
+pub on_err_also : {T U E F P Q : Type 0} (r : Result T E) (q : Result U F) → is_ok q ≡ is_ok r → (P → Q) → OnErr r P → OnErr q Q
+on_err_also (Ok x) (Ok y) same then p = tt
+on_err_also (Ok x) (Err y) same then p = absurd (true≢false (sym same))
+on_err_also (Err x) (Ok y) same then p = tt
+on_err_also (Err x) (Err y) same then p = then p
+
+-- nothing is said of an answer where there is none
+pub on_ok_none : {T E : Type 0} (P : Type 0) (r : Result T E) → IsErr r → OnOk r P
+on_ok_none P (Ok x) none = absurd (true≢false (sym none))
+on_ok_none P (Err e) none = tt
+
+-- what is said of the value of an answer may be said where it is known
+pub if_ok_is : {T E : Type 0} {P : T → Type 0} (r : Result T E) → ((t : T) → r ≡ Ok t → P t) → IfOk r P
+if_ok_is (Ok t) f = f t refl
+if_ok_is (Err e) f = tt
+
+-- a refusal is the one that it is told to be
+pub refusal_is : {T : Type 0} (came told : Refusal) → IsErrOf {T = T} {E = Refusal} (Err came) told → came ≡ told
+refusal_is came told is = cc (is)
+
+-- a refusal that goes on is the one that came
+pub same_refusal : {T : Type 0} (r : Result T Refusal) (came told : Refusal) → IsErrAnd r (λ e. e ≡ came) → IsErrOf r told → came ≡ told
+same_refusal (Ok t) came told goes is = absurd goes
+same_refusal (Err e) came told goes is = sym goes ∙ refusal_is e told is
+
+-- and it is told so of any answer
+pub refused_so : {T : Type 0} (came told : Refusal) → came ≡ told → IsErrOf {T = T} {E = Refusal} (Err came) told
+refused_so {T} came told same = let refused : Refusal → Result T Refusal = λ e. Err e in ap refused same
+
+-- an answer is no refusal
+pub no_refusal : {T : Type 0} (v : T) (told : Refusal) → IsErrOf {T = T} {E = Refusal} (Ok v) told → ⊥
+no_refusal v told is = IfErr-at_err (λ e. ⊥) is tt

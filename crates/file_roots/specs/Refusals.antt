@@ -1,0 +1,20 @@
+-- Which refusals may come of reading and of writing roots.
+use Rattle.std.specs.Prelude.{◌≡◌, ◌⊎◌, ℕ}
+use Rattle.grid_types.specs.declared.refusal.Refusal.{Refusal}
+use Rattle.grid_types.specs.declared.refusal.Refusal.TheVariants.{NoMemory, ReadFault, WriteFault, Damaged}
+
+-- some page is damaged
+abbrev pub TellsDamage : Refusal → Type 0
+TellsDamage e = (p : ℕ) × (e ≡ Damaged p)
+
+-- a read failed, or some page is damaged
+abbrev pub MayRefuseChoice : Refusal → Type 0
+MayRefuseChoice e = (e ≡ ReadFault) ⊎ TellsDamage e
+
+-- memory was wanting, a read failed, or some page is damaged
+abbrev pub MayRefuseReading : Refusal → Type 0
+MayRefuseReading e = (e ≡ NoMemory) ⊎ MayRefuseChoice e
+
+-- a read failed, or a write or a sync did
+abbrev pub MayRefuseWriting : Refusal → Type 0
+MayRefuseWriting e = (e ≡ ReadFault) ⊎ (e ≡ WriteFault)
