@@ -13,7 +13,7 @@ use Rattle.page_fields.proofs.Places.{one_corner}
 use Rattle.grid_model.proofs.Corners.{corner-is-key, few-taken}
 use Rattle.grid_model.specs.Spellings.{LoggedBatch}
 use Rattle.grid_model.specs.Lawful.{IsUpdateOf, StandsWith, IsBatch}
-use Rattle.journal_slots.specs.Reading.{CutAt, NoteAt, ChangeAt, NotedAt, UpdatesAt, BatchAt, NoteFits, AreLawfulFields}
+use Rattle.journal_slots.specs.Reading.{CutAt, NoteAt, ChangeAt, NotedAt, UpdatesAt, BatchAt, NoteFits, AreLawfulBatchFields}
 
 -- the code of a cut tells whether its boundary is fresh
 abbrev cut_code : Bool → ℕ
@@ -95,7 +95,7 @@ note_fits K page at (Put r) (note.Merge m) x f = absurd f
 note_fits K page at (Remove k) (note.Merge m) x f = x.bucket_in_range
 
 -- a batch that stands in a page is lawful where its fields are
-pub read_batch_lawful : (K : ℕ) (page : List ℕ) (b : LoggedBatch K) → BatchAt K page b → length b.updates ≤ 16 → AreLawfulFields b → IsBatch b
+pub read_batch_lawful : (K : ℕ) (page : List ℕ) (b : LoggedBatch K) → BatchAt K page b → length b.updates ≤ 16 → AreLawfulBatchFields b → IsBatch b
 read_batch_lawful K page b read few lawful = record {
   some = lawful.some;
   few = few;
@@ -118,5 +118,5 @@ fits_there (Remove k) (note.Cut c right) s = s
 fits_there (Put r) (note.Merge m) s = s
 fits_there (Remove k) (note.Merge m) s = tt
 
-pub lawful_fields : {K : ℕ} (b : LoggedBatch K) → IsBatch b → AreLawfulFields b
+pub lawful_fields : {K : ℕ} (b : LoggedBatch K) → IsBatch b → AreLawfulBatchFields b
 lawful_fields b fits = record { some = fits.some; first = fits.first; last = fits.last; notes = λ i d h. fits_there (get_or b.updates i d).update (get_or b.updates i d).note (fits.updates i d h).note }

@@ -82,7 +82,7 @@ abbrev pub AllNotesFit : {K : ℕ} → List (LoggedUpdate K) → Type 0
 AllNotesFit {K} us = (i : ℕ) (d : LoggedUpdate K) → i < length us → NoteFits (get_or us i d).update (get_or us i d).note
 
 -- the fields of a batch are lawful, beside the ranges of their types: it has an update, its place is in its limits, and each note fits
-pub record AreLawfulFields {K : ℕ} (b : LoggedBatch K) : Type 0 where
+pub record AreLawfulBatchFields {K : ℕ} (b : LoggedBatch K) : Type 0 where
   pub some : 1 ≤ length b.updates
   pub first : 1 ≤ b.first
   pub last : b.first ≤ LAST_PLACE

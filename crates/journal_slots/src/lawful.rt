@@ -1,7 +1,7 @@
 //! Whether the fields of a batch are lawful.
 ghost use Rattle.std.specs.Prelude.{◌↔◌, IsTrue};
 ghost use Rattle.journal_slots.specs.Batches.{batch_of};
-ghost use Rattle.journal_slots.specs.Reading.{NoteFits, AllNotesFit, AreLawfulFields};
+ghost use Rattle.journal_slots.specs.Reading.{NoteFits, AllNotesFit, AreLawfulBatchFields};
 
 use crate::Batch;
 use grid_types::{LayoutChange, LoggedUpdate, Update};
@@ -39,7 +39,7 @@ fn all_fit<const K: usize>(updates: &[LoggedUpdate<K>]) -> bool
 
 /// Whether the fields of the batch are lawful, beside the ranges of their types.
 pub fn is_lawful<const K: usize>(batch: &Batch<K>) -> bool
-    ensures { IsTrue result ↔ AreLawfulFields (batch_of batch.now) }
+    ensures { IsTrue result ↔ AreLawfulBatchFields (batch_of batch.now) }
 {
     batch.updates.len() >= 1
         && batch.first >= 1

@@ -8,7 +8,7 @@ ghost use Rattle.grid_model.specs.Spellings.{slot_spelling};
 ghost use Rattle.grid_model.specs.Spellings as model;
 ghost use Rattle.grid_model.specs.Images.{SpellsBatch};
 ghost use Rattle.journal_slots.specs.Batches.{batch_of};
-ghost use Rattle.journal_slots.specs.Reading.{NoteAt, ChangeAt, NotedAt, UpdatesAt, AreLawfulFields};
+ghost use Rattle.journal_slots.specs.Reading.{NoteAt, ChangeAt, NotedAt, UpdatesAt, AreLawfulBatchFields};
 
 use crate::lawful::is_lawful;
 use crate::{Batch, encode};
@@ -122,9 +122,9 @@ fn read_updates<const K: usize>(
 /// Whether the batch is lawful, and this page its one spelling.
 fn is_spelled<const K: usize>(page: &[u8; PAGE_BYTES], batch: &Batch<K>) -> bool
     requires few { K ≤ 4 }
-    ensures lawful { IsTrue result → AreLawfulFields (batch_of batch.now) }
+    ensures lawful { IsTrue result → AreLawfulBatchFields (batch_of batch.now) }
     ensures bytes { IsTrue result → page.now ≡ slot_spelling (batch_of batch.now) }
-    ensures all { AreLawfulFields (batch_of batch.now)
+    ensures all { AreLawfulBatchFields (batch_of batch.now)
         → page.now ≡ slot_spelling (batch_of batch.now)
         → IsTrue result }
 {

@@ -1,7 +1,7 @@
 use Rattle.std.proofs.Common.{◌≡◌, ◌∙◌, ap, sym, subst, arith}
 use Rattle.std.proofs.lemmas.Bool.{false≢true}
 use Rattle.grid_model.specs.Spellings.{LoggedBatch, slot_spelling}
-use Rattle.journal_slots.specs.Reading.{AreLawfulFields}
+use Rattle.journal_slots.specs.Reading.{AreLawfulBatchFields}
 use Rattle.journal_slots.proofs.Standing.{batch_there}
 use Rattle.journal_slots.proofs.Alone.{one_batch, batch_read, read_batch_lawful, lawful_fields}
 use Rattle.journal_slots.proofs.reading.decode.Goals as goal
@@ -38,5 +38,5 @@ returns-else-is_spelled-clause-none g c = λ b s.
     let found : LoggedBatch g.row.K = record { session = c.get_u64.result; first = c.get_u64-2.result; updates = c.read_updates.new.updates.items } in
     let read = batch_read g.row.K c.args.page.now _ _ _ _ c.get_u64.ensures (omega arith) c.get_u64-2.ensures (c.read_updates.ensures.count ok) c.get_u16-count.ensures (c.read_updates.ensures.found ok) in
     let same : b ≡ found = one_batch g.row.K c.args.page.now b found there read in
-    let yes = c.is_spelled.ensures.all (subst AreLawfulFields same (lawful_fields b s.lawful)) (s.spelled ∙ ap slot_spelling same) in
+    let yes = c.is_spelled.ensures.all (subst AreLawfulBatchFields same (lawful_fields b s.lawful)) (s.spelled ∙ ap slot_spelling same) in
     false≢true (sym c.if-is_spelled.false ∙ yes)
