@@ -33,7 +33,7 @@ impl<const K: usize> Gathered<K> {
             → AreRootFields geometry.now.shape r
             → IfOk result (HasGathered geometry.now.shape image r 0) }
     {
-        let scales = Scales::new(alloc, geometry.shape.boundaries)?;
+        let scales = Scales::new(alloc, geometry.shape.boundaries as u16)?;
         let marks = vec![in alloc; false; geometry.shape.pages as usize]?;
         Ok(Gathered {
             scales,

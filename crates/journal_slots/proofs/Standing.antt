@@ -21,7 +21,7 @@ use Rattle.journal_slots.proofs.Parts.{update_is, head_is}
 
 pub length_update : {K : ℕ} (u : LoggedUpdate K) → K ≤ 4 → IsLoggedUpdate u → length (update_bytes u) ≡ 96
 length_update {K} u few fits =
-    let k = padded 32 (numbers (updated_key u.update)) in
+    let k = padded 32 (numbers 8 (updated_key u.update)) in
     let v = padded 40 (update_data u.update) in
     let n4 = bytes_of 4 (note_bucket u.note) in
     let n8 = bytes_of 8 (note_boundary u.note) in
@@ -46,7 +46,7 @@ record FieldsAt (K : ℕ) (page : List ℕ) (at : ℕ) (u : LoggedUpdate K) : Ty
 fields_there : (K : ℕ) (page : List ℕ) (at : ℕ) (u : LoggedUpdate K) (rest : List ℕ) → K ≤ 4 → IsLoggedUpdate u → drop at page ≡ update_bytes u ++ rest → FieldsAt K page at u
 unfolding padded
 fields_there K page at u rest few fits e =
-    let key = padded 32 (numbers (updated_key u.update)) in
+    let key = padded 32 (numbers 8 (updated_key u.update)) in
     let value = update_data u.update in
     let n4 = bytes_of 4 (note_bucket u.note) in
     let n8 = bytes_of 8 (note_boundary u.note) in

@@ -3,7 +3,7 @@ use Rattle.std.proofs.lemmas.List.{length-set, length-map}
 use Rattle.grid_model.specs.Lawful.{pages_named}
 use Rattle.grid_model.specs.Scales.{scale_of}
 use Rattle.linear_scales.specs.Limited.{scales_of}
-use Rattle.linear_scales.proofs.Filling.{step}
+use Rattle.grid_model.proofs.Filled.{step}
 use Rattle.file_roots.proofs.Counting.{lengths_filled}
 use Rattle.file_roots.proofs.root.fields.Goals as goal
 

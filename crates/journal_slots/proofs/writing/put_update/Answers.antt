@@ -12,10 +12,10 @@ returns g c =
     let at = c.args.at in
     let u = c.args.noted.now in
     let v = c.bytes-data.result.now in
-    let d : take (at + 48) c.put_corner.new.page ≡ take (at + 16) c.set_u64.new.page ++ padded 32 (numbers (updated_key u.update)) =
-    ap (λ (n : ℕ). take n c.put_corner.new.page) (omega arith) ∙ c.put_corner.ensures.front ∙ ap (λ (k : List ℕ). take (at + 16) c.set_u64.new.page ++ padded 32 (numbers k)) c.key.ensures in
-    let key : length (padded 32 (numbers (updated_key u.update))) ≡ 32 =
-    omega (arith, ap length d, length-append (take (at + 16) c.set_u64.new.page) (padded 32 (numbers (updated_key u.update))), length-take-le (at + 48) c.put_corner.new.page (omega (arith, c.put_corner.array_long, c.requires.room)), length-take-le (at + 16) c.set_u64.new.page (omega (arith, c.set_u64.array_long, c.requires.room))) in
+    let d : take (at + 48) c.put_corner.new.page ≡ take (at + 16) c.set_u64.new.page ++ padded 32 (numbers 8 (updated_key u.update)) =
+    ap (λ (n : ℕ). take n c.put_corner.new.page) (omega arith) ∙ c.put_corner.ensures.front ∙ ap (λ (k : List ℕ). take (at + 16) c.set_u64.new.page ++ padded 32 (numbers 8 k)) c.key.ensures in
+    let key : length (padded 32 (numbers 8 (updated_key u.update))) ≡ 32 =
+    omega (arith, ap length d, length-append (take (at + 16) c.set_u64.new.page) (padded 32 (numbers 8 (updated_key u.update))), length-take-le (at + 48) c.put_corner.new.page (omega (arith, c.put_corner.array_long, c.requires.room)), length-take-le (at + 16) c.set_u64.new.page (omega (arith, c.set_u64.array_long, c.requires.room))) in
     let a : take (at + 4) c.put_bytes.new.page ≡ take at c.args.page.now ++ update_code u.update ∷ note_code u.note ∷ note_attribute u.note ∷ length v ∷ [] =
     c.put_bytes.ensures.front ∙ rw (c.kind.ensures, c.code.ensures, c.attribute.ensures) refl in
     let b : take (at + 8) c.set_u32.new.page ≡ take (at + 4) c.put_bytes.new.page ++ bytes_of 4 (note_bucket u.note) =
