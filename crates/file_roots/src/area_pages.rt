@@ -1,5 +1,5 @@
 //! The pages of a root's table area.
-ghost use Rattle.std.specs.Prelude.{◌≡◌, ◌<◌, ◌≤◌, ◌+◌, ◌*◌, ◌-◌, ℕ, Option, IsTrue, OnOk, length, take, drop};
+ghost use Rattle.std.specs.Prelude.{◌≡◌, ◌<◌, ◌≤◌, ◌+◌, ◌*◌, ◌-◌, [], ℕ, Option, IsTrue, OnOk, length, take, drop};
 ghost use Rattle.grid_types.specs.declared.sizes.TheConstants.{PAGE_BYTES, WORDS_ON_PAGE, MOST_BOUNDARIES};
 ghost use Rattle.grid_types.specs.Pages.{page_of};
 ghost use Rattle.grid_types.specs.Shapes.{area_pages, file_pages};
@@ -8,11 +8,10 @@ ghost use Rattle.grid_model.specs.Images.{area_spelling, half_of_scale};
 ghost use Rattle.linear_scales.specs.Limited.{scales_of};
 ghost use Rattle.disk_trait.specs.Calls.{Changes};
 ghost use Rattle.disk_trait.specs.Causes.{HasCause};
-ghost use Rattle.disk_trait.specs.Moments.{LeavesOnly};
 ghost use Rattle.file_roots.specs.Roots.{WholeRoot, area_of, whole_of, IsRoot};
 ghost use Rattle.file_roots.specs.Places.{own_page, AreaPageAlone, AreaAlone};
-ghost use Rattle.file_roots.specs.Replacing.{HasAreaOf, ShowsOld};
-ghost use Rattle.file_roots.specs.Writing.{Awaits};
+ghost use Rattle.file_roots.specs.Replacing.{HasAreaOf};
+ghost use Rattle.file_roots.specs.Writing.{Awaits, AlwaysShows};
 
 use crate::Root;
 use disk_trait::{Disk, DiskFailed};
@@ -92,7 +91,7 @@ pub fn write_area_page<const K: usize, D: Disk>(
         → Awaits D.Disk geometry.now.shape root.now.number old disk.new }
     ensures shows_old { (old : Option WholeRoot)
         → Awaits D.Disk geometry.now.shape root.now.number old disk.old
-        → LeavesOnly D.moment D.left_since disk.old disk.new (ShowsOld geometry.now.shape old) }
+        → AlwaysShows D.Disk geometry.now.shape old [] disk.old disk.new }
     ensures cause { HasCause (D.write_count disk.old) (D.write_count disk.new) result }
 {
     let mut page = [0; PAGE_BYTES];

@@ -6,11 +6,9 @@ ghost use Rattle.grid_model.specs.Images.{header_gate};
 ghost use Rattle.disk_trait.specs.Calls.{Changes, IsSynced, HasCauses};
 ghost use Rattle.disk_trait.specs.Causes.{HasCause};
 ghost use Rattle.disk_trait.specs.Disk.{Agrees, Stays};
-ghost use Rattle.disk_trait.specs.Moments.{LeavesOnly};
 ghost use Rattle.file_roots.specs.Roots.{WholeRoot};
 ghost use Rattle.file_roots.specs.Places.{GateAlone};
-ghost use Rattle.file_roots.specs.Replacing.{IsOneOf};
-ghost use Rattle.file_roots.specs.Writing.{MayBeWritten, Awaits};
+ghost use Rattle.file_roots.specs.Writing.{MayBeWritten, Awaits, AlwaysShows};
 ghost use Rattle.file_roots.specs.Refusals.{MayRefuseWriting};
 
 use crate::header::GATE;
@@ -50,8 +48,7 @@ pub fn close_root<D: Disk, L: Ledger>(
         → OnOk result (Awaits D.Disk geometry.now.shape number old disk.new) }
     ensures old_or_tried { (old : Option WholeRoot) (tried : List WholeRoot)
         → MayBeWritten D.Disk geometry.now.shape number old tried disk.old
-        → LeavesOnly D.moment D.left_since disk.old disk.new
-        (IsOneOf geometry.now.shape old tried) }
+        → AlwaysShows D.Disk geometry.now.shape old tried disk.old disk.new }
     ensures again { (old : Option WholeRoot) (tried : List WholeRoot)
         → MayBeWritten D.Disk geometry.now.shape number old tried disk.old
         → OnErr result (MayBeWritten D.Disk geometry.now.shape number old tried disk.new) }

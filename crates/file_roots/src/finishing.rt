@@ -6,11 +6,10 @@ ghost use Rattle.grid_model.specs.Spellings.{root_bytes};
 ghost use Rattle.grid_model.specs.Images.{root_fields};
 ghost use Rattle.disk_trait.specs.Calls.{Changes, IsSynced};
 ghost use Rattle.disk_trait.specs.Causes.{HasCause};
-ghost use Rattle.disk_trait.specs.Moments.{LeavesOnly};
 ghost use Rattle.file_roots.specs.Roots.{WholeRoot, root_fields_of, whole_of, IsRoot};
 ghost use Rattle.file_roots.specs.Places.{FieldsAlone, HeaderAlone};
-ghost use Rattle.file_roots.specs.Replacing.{HasAreaOf, IsNewestWhole, IsOneOf, IsOtherOlder};
-ghost use Rattle.file_roots.specs.Writing.{MayBeWritten, Awaits};
+ghost use Rattle.file_roots.specs.Replacing.{HasAreaOf, IsNewestWhole, IsOtherOlder};
+ghost use Rattle.file_roots.specs.Writing.{MayBeWritten, Awaits, AlwaysShows};
 
 use crate::Root;
 use crate::header::{FIELDS, GATE, write_on_header};
@@ -54,8 +53,7 @@ pub fn finish_root<const K: usize, D: Disk>(
     ensures old_or_new { (old : Option WholeRoot)
         → Awaits D.Disk geometry.now.shape root.now.number old disk.old
         → HasAreaOf geometry.now.shape (whole_of root.now) (D.seen disk.old)
-        → LeavesOnly D.moment D.left_since disk.old disk.new
-        (IsOneOf geometry.now.shape old (whole_of root.now ∷ [])) }
+        → AlwaysShows D.Disk geometry.now.shape old (whole_of root.now ∷ []) disk.old disk.new }
     ensures again { (old : Option WholeRoot)
         → Awaits D.Disk geometry.now.shape root.now.number old disk.old
         → HasAreaOf geometry.now.shape (whole_of root.now) (D.seen disk.old)

@@ -3,11 +3,10 @@ ghost use Rattle.std.specs.Prelude.{◌≡◌, ◌≤◌, ◌+◌, ◌*◌, List
 ghost use Rattle.grid_types.specs.declared.sizes.TheConstants.{PAGE_BYTES};
 ghost use Rattle.grid_types.specs.Shapes.{file_pages};
 ghost use Rattle.disk_trait.specs.Calls.{Changes, IsSynced, HasCauses};
-ghost use Rattle.disk_trait.specs.Moments.{LeavesOnly};
 ghost use Rattle.file_roots.specs.Roots.{WholeRoot, whole_of, IsRoot};
 ghost use Rattle.file_roots.specs.Places.{RootAlone};
-ghost use Rattle.file_roots.specs.Replacing.{IsNewestWhole, IsOneOf, IsOtherOlder};
-ghost use Rattle.file_roots.specs.Writing.{MayBeWritten};
+ghost use Rattle.file_roots.specs.Replacing.{IsNewestWhole, IsOtherOlder};
+ghost use Rattle.file_roots.specs.Writing.{MayBeWritten, AlwaysShows};
 ghost use Rattle.file_roots.specs.Refusals.{MayRefuseWriting};
 
 use crate::area_pages::write_area;
@@ -30,8 +29,7 @@ pub fn replace_root<const K: usize, D: Disk, L: Ledger>(
     requires size { file_pages geometry.now.shape * PAGE_BYTES ≤ D.extent disk.old }
     ensures old_or_new { (old : Option WholeRoot) (tried : List WholeRoot)
         → MayBeWritten D.Disk geometry.now.shape root.now.number old tried disk.old
-        → LeavesOnly D.moment D.left_since disk.old disk.new
-        (IsOneOf geometry.now.shape old (whole_of root.now ∷ tried)) }
+        → AlwaysShows D.Disk geometry.now.shape old (whole_of root.now ∷ tried) disk.old disk.new }
     ensures again { (old : Option WholeRoot) (tried : List WholeRoot)
         → MayBeWritten D.Disk geometry.now.shape root.now.number old tried disk.old
         → OnErr result (MayBeWritten D.Disk geometry.now.shape

@@ -79,7 +79,8 @@ pub fn decode_fields<const K: usize>(
 ) -> Option<RootHeader<K>>
     requires attributes { geometry.now.shape.k ≡ K }
     requires two { header < 2 }
-    ensures found { IfSome result (λ f. SpellsRoot geometry.now.shape header page.now (model_fields f)) }
+    ensures found { IfSome result (λ f.
+        SpellsRoot geometry.now.shape header page.now (model_fields f)) }
     ensures only { IfSome result (λ f. (r : RootFields)
         → SpellsRoot geometry.now.shape header page.now r
         → r ≡ model_fields f) }

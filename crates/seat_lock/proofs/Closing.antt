@@ -9,7 +9,7 @@ use Rattle.seat_lock.specs.Rule.{MeOf}
 use Rattle.seat_lock.specs.Plays.{Carries, Taken}
 use Rattle.seat_lock.specs.Outcomes.{Meeting, Closed}
 use Rattle.seat_lock.proofs.Lists.{found_in_bounds}
-use Rattle.seat_lock.proofs.Meeting.{taken_carries, found_carried, holds_found, meeting_of}
+use Rattle.seat_lock.proofs.Meeting.{taken_carries, found_carried, has_met}
 
 module _ {P : Type 0} where
   -- a place below n that is out is counted
@@ -43,7 +43,7 @@ module _ {C Ev R P E : Type 0} {g : Ghosts C Ev R P E} where
   pub closed_alone : {m w z : MeOf C E P} {found : Option C} {core : C} {place : ℕ} {x : P} {out : ℕ} → Taken g m w → m.1 ≡ [] → z ≡ w → z.1 ≡ (0, found) ∷ rest z.1 → found ≡ Some core → m.0.seat ≡ Some (place, x)
       → ((c : C) → Carries w c → out ≡ how_many (g.part_at c) (g.places c)) → out ≤ 1 → Closed g core m.0
   closed_alone {m} {w} {z} {found} {core} {place} {x} t none same value is seat counted few = let value' : w.1 ≡ (0, found) ∷ rest w.1 = subst (λ (q : MeOf C E P). q.1 ≡ (0, found) ∷ rest q.1) same value in
-      let met : Meeting g core m.0 place = meeting_of (holds_found t none value' is) seat in
+      let met : Meeting g core m.0 place = (has_met t none value' is seat).meeting in
       let count = counted core (subst (λ (c : C). Carries w c) (found_carried t none value' is) (taken_carries t none)) in record {
         place = place;
         meeting = met;

@@ -9,21 +9,21 @@ use Rattle.seat_lock.specs.Parts.{Has, Begins, Moves, Meets, StaysSafe}
 use Rattle.seat_lock.specs.Laws.{Laws}
 use Rattle.seat_lock.specs.Rule.{MeOf, Fits}
 use Rattle.seat_lock.specs.Plays.{Carries, Holds, Taken}
-use Rattle.seat_lock.specs.Turns.{IsBetweenCalls}
+use Rattle.seat_lock.specs.Turns.{IsBetweenCalls, MayHandOver}
 use Rattle.seat_lock.specs.Outcomes.{Meeting}
 use Rattle.seat_lock.specs.Chairs.{Sight, view_of, sight, IsResting}
 use Rattle.seat_lock.specs.Views.{IsAtRest, seat_at, with_turn, with_seen, without_turn}
-use Rattle.seat_lock.proofs.Lists.{begins_trans, value_found}
+use Rattle.seat_lock.proofs.Lists.{begins_trans, value_found, slot_alone}
 
 module _ {C Ev R P E : Type 0} (g : Ghosts C Ev R P E) where
   -- the laws of what lies in the lock
   abbrev pub LawsOf : Type 0
   LawsOf = Laws g.part_at g.onward g.places g.safe g.appended g.allowed g.is_enabled g.does g.forks g.joins g.idle g.front_is
 
-  -- the seat of this place, whose view was v, has taken the value that it met
-  pub record HasMet (core : C) (v : View E P) (w : MeOf C E P) (place : ℕ) : Type 0 where
+  -- the seat of this place, whose view was v and became u, has taken the value that it met
+  pub record HasMet (core : C) (v u : View E P) (w : MeOf C E P) (place : ℕ) : Type 0 where
     pub meeting : Meeting g core v place
-    pub view : w.0 ≡ with_turn v meeting.history meeting.parts
+    pub view : w.0 ≡ with_turn u meeting.history meeting.parts
     pub taken : C
     pub carries : Carries w taken
 
@@ -61,24 +61,44 @@ module _ {C Ev R P E : Type 0} {g : Ghosts C Ev R P E} where
     carried = t'.carried ∙ ap (λ (l : List (ℕ × Option C)). (0, Some t'.core) ∷ l) (sym none);
   }
 
-  -- what the seat of a place meets in a value that it took
-  abbrev pub meeting_of : {core : C} {v w : View E P} {place : ℕ} {x : P} → Holds g core v w → v.seat ≡ Some (place, x) → Meeting g core v place
-  meeting_of {place = place} {x = x} h seat = record {
-    history = h.history;
-    parts = h.parts;
+  -- a seat of a place whose part is listed there meets the value that fits
+  abbrev pub meeting_of : {core : C} {v : View E P} {history : List E} {parts : List (Option P)} {place : ℕ} {x : P} → v.seat ≡ Some (place, x) → Fits g core v.from history parts → Has parts place x → Begins v.seen history → Meeting g core v place
+  meeting_of {history = history} {parts = parts} {place = place} {x = x} seat fits has begins = record {
+    history = history;
+    parts = parts;
     known = x;
-    found = (h.fits.leads place x (h.placed place x seat)).0;
+    found = (fits.leads place x has).0;
     had = seat;
-    fits = h.fits;
-    has = h.placed place x seat;
-    begins = h.begins;
-    found_is = (h.fits.leads place x (h.placed place x seat)).1;
-    moved = (h.fits.leads place x (h.placed place x seat)).2;
+    fits = fits;
+    has = has;
+    begins = begins;
+    found_is = (fits.leads place x has).1;
+    moved = (fits.leads place x has).2;
   }
 
-  -- the seat of a place that took the value holds what was found in the slot
-  abbrev pub has_met : {m m' : MeOf C E P} {found : Option C} {core : C} {place : ℕ} {x : P} → Taken g m m' → m.1 ≡ [] → m'.1 ≡ (0, found) ∷ rest m'.1 → found ≡ Some core → m.0.seat ≡ Some (place, x) → HasMet g core m.0 m' place
-  has_met t none value is seat = record { meeting = meeting_of (holds_found t none value is) seat; view = (holds_found t none value is).view; taken = t.core; carries = taken_carries t none }
+  -- the seat of a place that took the value has met what was found in the slot
+  abbrev pub has_met : {m m' : MeOf C E P} {found : Option C} {core : C} {place : ℕ} {x : P} → Taken g m m' → m.1 ≡ [] → m'.1 ≡ (0, found) ∷ rest m'.1 → found ≡ Some core → m.0.seat ≡ Some (place, x) → HasMet g core m.0 m.0 m' place
+  has_met {place = place} {x = x} t none value is seat = let h = holds_found t none value is in record { meeting = meeting_of seat h.fits (h.placed place x seat) h.begins; view = h.view; taken = t.core; carries = taken_carries t none }
+
+  -- the seat, once the value was changed where it lies and its own view by f
+  pub seat_changed : {core t : C} {v u : View E P} {w m : MeOf C E P} {place : ℕ} (f : View E P → View E P) (h : HasMet g core v u w place) → m ≡ (f w.0, (0, Some t) ∷ rest w.1) → m ≡ (f (with_turn u h.meeting.history h.meeting.parts), (0, Some t) ∷ [])
+  seat_changed {t = t} {w = w} f h is = is ∙ (λ i. (f (h.view i), slot_alone w.1 (Some h.taken) (Some t) h.carries i))
+
+  -- then the value may go home where it fits the parts with the seat's new one
+  pub may_go_home : {m : MeOf C E P} {y : View E P} {t : C} {place : ℕ} {old new : P} {parts : List (Option P)} → m ≡ (y, (0, Some t) ∷ []) → y.notes ≡ Some parts → y.seat ≡ Some (place, old) → Has parts place old → g.part_at t place ≡ Some new
+      → Fits g t y.from y.seen (set parts place (Some new)) → MayHandOver g m place
+  may_go_home {t = t} {place = place} {old = old} {new = new} {parts = parts} e notes seat has new_is fits = subst (λ (z : MeOf C E P). MayHandOver g z place) (sym e) record {
+    core = t;
+    carries = refl;
+    parts = parts;
+    old = old;
+    new = new;
+    notes = notes;
+    seat = seat;
+    has = has;
+    new_is = new_is;
+    fits = fits;
+  }
 
   -- a seat that has met the value meets it as the laws say
   abbrev pub meets : {core : C} {v : View E P} {place : ℕ} (m : Meeting g core v place) → Meets g.part_at g.onward g.places g.safe core place v.from m.history m.parts

@@ -1,16 +1,16 @@
--- Telling others what was seen, and seeing all of the history, keep the rule.
-use Rattle.std.proofs.Common.{◌≡◌, ℕ, ◌+◌, List, [], ◌∷◌, ◌++◌, length, set, sym, refl, ap, ◌∙◌, subst, inl, None}
+-- Giving a note of what was seen, and seeing all of the history, keep the rule.
+use Rattle.std.proofs.Common.{ℕ, ◌+◌, List, [], ◌∷◌, ◌++◌, length, set, sym, refl, ap, ◌∙◌, subst, None}
 use Rattle.std.proofs.lemmas.List.{set-get_or}
 use mathlib.Core.Option.{none}
-use Rattle.atomic_table.specs.Table.{step, keeps, Allows, Splits, Joins}
+use Rattle.atomic_table.specs.Table.{step, keeps, Allows, Splits}
 use Rattle.atomic_table.proofs.Lists.{set_again}
 use Rattle.seat_lock.specs.declared.view.View.{View}
 use Rattle.seat_lock.specs.declared.stepped.Stepped.{Ghosts}
 use Rattle.seat_lock.specs.Rule.{MeOf, Ruled}
 use Rattle.seat_lock.specs.Plays.{Looks}
-use Rattle.seat_lock.specs.Views.{IsAtRest, resting_view, with_all_seen, with_told}
+use Rattle.seat_lock.specs.Views.{resting_view, with_all_seen}
 use Rattle.seat_lock.proofs.Lists.{begins_self}
-use Rattle.seat_lock.proofs.Fairness.{notes_clash, sits_nowhere, agree_set, keeps_places, agree_append, agree_joined}
+use Rattle.seat_lock.proofs.Fairness.{sits_nowhere, agree_set, keeps_places, agree_append}
 use Rattle.seat_lock.proofs.Turning.{turn_set, turn_append}
 
 module _ {C Ev R P E : Type 0} (g : Ghosts C Ev R P E) (from : ℕ) where
@@ -42,14 +42,3 @@ module _ {C Ev R P E : Type 0} (g : Ghosts C Ev R P E) (from : ℕ) where
         agree = agree_append w r.agree b.0 b.1 (r.history, refl) (λ p x is. absurd (sits_nowhere w p x refl refl is)) refl (λ j u p x y _ is _. sits_nowhere w p x refl refl is);
         turn = turn_append w refl r.turn;
       }
-
-  -- the seat is told of what another has seen
-  pub tell_keeps_rule : (id : ℕ) (v : View E P) (other : ℕ) (w : View E P) (f : ℕ) → IsAtRest v → IsAtRest w → f ≡ v.from → Joins (Ruled g from) id v other w (with_told v w) (resting_view f [] None)
-  tell_keeps_rule id v other w f rest rest' same s r at apart there = record {
-    history = r.history;
-    parts = r.parts;
-    wide = r.wide;
-    counted = r.counted;
-    agree = agree_joined (with_told v w) f r.agree at apart there refl refl refl rest.1 rest'.1 same (λ p x is. inl is) (λ p q x y is is' a _. a.twice id v p q x y at is is');
-    turn = turn_set other w (resting_view f [] None) there (sym rest'.0) (λ on _. absurd (notes_clash w r.parts rest'.0 on)) (turn_set id v (with_told v w) at refl (λ _ e. e) r.turn);
-  }

@@ -36,30 +36,30 @@ module _ {C Ev R P E : Type 0} (g : Ghosts C Ev R P E) where
     pub found_is : g.part_at core place ≡ Some found
     pub moved : g.onward known found
 
-  -- one enabled step was made in the value that the seat met; the seat has then seen that history with what the event appended, and its part is the new value's
-  pub record Acted (v w : View E P) (event : Ev) (reply : R) : Type 0 where
+  -- the value that the seat met was changed, and what the seat has of it then is this part
+  pub record Move (v : View E P) : Type 0 where
     pub before : C
     pub after : C
     pub place : ℕ
     pub meeting : Meeting before v place
     pub open meeting use *
     pub new : P
+    pub new_is : g.part_at after place ≡ Some new
+
+  -- one enabled step was made in the value that the seat met; the seat has then seen that history with what the event appended, and its part is the new value's
+  pub record Acted (v w : View E P) (event : Ev) (reply : R) : Type 0 where
+    pub move : Move v
+    pub open move use *
     pub enabled : g.is_enabled before place event ≡ true
     pub did : g.does before place event after reply
-    pub new_is : g.part_at after place ≡ Some new
     pub kept : g.safe after v.from (history ++ g.appended before place event) (slice_set parts place (Some new))
     pub view : w ≡ without_turn (with_seen v (history ++ g.appended before place event)) (Some (place, new))
 
   -- a fork was answered by the value that the seat met; the seat has then seen that history, and its part is the new value's
   pub record ForkAnswered (v w : View E P) (answer : Result ℕ R) : Type 0 where
-    pub before : C
-    pub after : C
-    pub place : ℕ
-    pub meeting : Meeting before v place
-    pub open meeting use *
-    pub new : P
+    pub move : Move v
+    pub open move use *
     pub did : g.forks before place after answer
-    pub new_is : g.part_at after place ≡ Some new
     pub view : w ≡ without_turn (with_seen v history) (Some (place, new))
 
   -- a fork was made, and the new seat has seen as much and has the new place, with the part that the new value has of it
@@ -68,23 +68,18 @@ module _ {C Ev R P E : Type 0} (g : Ghosts C Ev R P E) where
     pub given : P
     pub free : g.part_at fork.before new ≡ None
     pub given_is : g.part_at fork.after new ≡ Some given
-    pub view : o ≡ resting_view v.from fork.meeting.history (Some (new, given))
+    pub view : o ≡ resting_view v.from fork.history (Some (new, given))
 
   -- the place of another seat was taken back, in the value that the seat met, whose history begins with what the other had seen too; the seat has then seen that history, and its part is the new value's
   pub record TakenBack (v w o : View E P) : Type 0 where
-    pub before : C
-    pub after : C
-    pub place : ℕ
+    pub move : Move v
+    pub open move use *
     pub other : ℕ
-    pub meeting : Meeting before v place
-    pub open meeting use *
     pub other_known : P
     pub other_had : o.seat ≡ Some (other, other_known)
     pub other_has : Has parts other other_known
     pub other_begins : Begins o.seen history
     pub did : g.joins before place other after
-    pub new : P
-    pub new_is : g.part_at after place ≡ Some new
     pub freed : g.part_at after other ≡ None
     pub view : w ≡ resting_view v.from history (Some (place, new))
 

@@ -55,11 +55,7 @@ module _ {E P : Type 0} where
   abbrev pub with_note : ℕ → Option P → View E P → View E P
   with_note place part v = record { from = v.from; seen = v.seen; told = v.told; seat = v.seat; guest = v.guest; notes = notes_with place part v.notes }
 
-  -- the seat was told of what another had seen
-  abbrev pub with_told : View E P → View E P → View E P
-  with_told v w = record { from = v.from; seen = v.seen; told = w.seen; seat = v.seat; guest = v.guest; notes = v.notes }
-
-  -- the same, and the other's place is its guest's
+  -- the seat was told of what another had seen, and the other's place is its guest's
   abbrev pub with_guest : View E P → View E P → View E P
   with_guest v w = record { from = v.from; seen = v.seen; told = w.seen; seat = v.seat; guest = w.seat; notes = v.notes }
 

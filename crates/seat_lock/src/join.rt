@@ -16,8 +16,8 @@ use std::mem;
 use std::sync::Wait;
 
 impl<C: Stepped> SeatLock<C> {
-    // The seat takes in the other's place, as its guest's, and is told of what the other has seen.
-    fn absorb<J: Starts>(&self, seat: &mut SeatOf<C>, other: SeatOf<C>)
+    // The seat is told of what the other has seen, which is spent, and takes in its place, if it has one, as its guest's.
+    pub(crate) fn absorb<J: Starts>(&self, seat: &mut SeatOf<C>, other: SeatOf<C>)
         requires seat { (seat.old.table_id ≡ table_of self.now) × IsBetweenCalls seat.old.me }
         requires other { (other.table_id ≡ table_of self.now) × IsBetweenCalls other.me }
         requires front { J.front ≡ seat.old.me.0.from }

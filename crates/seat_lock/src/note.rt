@@ -3,12 +3,10 @@ ghost use Rattle.std.specs.Prelude.{◌≡◌, List, None};
 ghost use Rattle.seat_lock.specs.Chairs.{note_of, seeing};
 ghost use Rattle.seat_lock.specs.Locks.{table_of};
 ghost use Rattle.seat_lock.specs.Parts.{Begins};
-ghost use Rattle.seat_lock.specs.Turns.{IsBetweenCalls, Becomes};
-ghost use Rattle.seat_lock.specs.Views.{with_told};
 
 use crate::chair::Chair;
 use crate::lock::SeatLock;
-use crate::rule::{Look, Note, SeatOf, Starts, Tell};
+use crate::rule::{Look, Note};
 use crate::stepped::Stepped;
 use atomic_table::Badge;
 use std::marker::Brand;
@@ -31,16 +29,6 @@ impl<C: Stepped> SeatLock<C> {
         }
     }
 
-    // The seat is told of what the other has seen, which is then spent.
-    fn tell<J: Starts>(&self, seat: &mut SeatOf<C>, other: SeatOf<C>)
-        requires seat { (seat.old.table_id ≡ table_of self.now) × IsBetweenCalls seat.old.me }
-        requires other { (other.table_id ≡ table_of self.now) × IsBetweenCalls other.me }
-        requires front { J.front ≡ seat.old.me.0.from }
-        ensures { Becomes seat.old seat.new (with_told seat.old.me.0 other.me.0, seat.old.me.1) }
-    {
-        self.table.shared.join_seat::<Tell<J>>(seat, other);
-    }
-
     /// Sees all of the history so far, which begins with what the chair had seen, and with what the note has.
     pub fn learn(&self, chair: &mut Chair<C::Entry, C::Part>, note: Chair<C::Entry, C::Part>)
         requires own { chair.old.table_id ≡ table_of self.now }
@@ -56,7 +44,7 @@ impl<C: Stepped> SeatLock<C> {
         let badge = mem::replace(&mut chair.badge, Badge::blank());
         let mut seat = badge.into_seat::<Option<C>>();
         let other = told.into_seat::<Option<C>>();
-        self.tell::<Brand>(&mut seat, other);
+        self.absorb::<Brand>(&mut seat, other);
         self.table.shared.load::<Look>(&mut seat, 0);
         chair.badge = seat.into_badge();
     }

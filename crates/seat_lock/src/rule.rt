@@ -7,7 +7,7 @@ ghost use Rattle.std.specs.Prelude.{ℕ, List, [], Option, None};
 ghost use Rattle.seat_lock.specs.Rule.{Ruled};
 ghost use Rattle.seat_lock.specs.Plays.{Takes, Grows, Gives, GivesBack, Stays, Looks, Releases};
 ghost use Rattle.seat_lock.specs.Views.{first_view, resting_view, seat_at};
-ghost use Rattle.seat_lock.specs.Views.{with_note, with_told, with_guest};
+ghost use Rattle.seat_lock.specs.Views.{with_note, with_guest};
 
 use crate::stepped::Stepped;
 use crate::view::View;
@@ -143,18 +143,7 @@ impl Starts for Brand {
     ghost front = { 0 };
 }
 
-/// The seat is told of what another has seen.
-pub(crate) struct Tell<J> {
-    of: PhantomData<J>,
-}
-
-impl<E, P, J: Starts> Join<View<E, P>> for Tell<J> {
-    ghost both = { with_told };
-
-    ghost spent = { resting_view J.front [] None };
-}
-
-/// The same, and it takes in the other's place.
+/// The seat is told of what another has seen, and takes in its place.
 pub(crate) struct TakeIn<J> {
     of: PhantomData<J>,
 }
