@@ -10,14 +10,14 @@ use Rattle.grid_model.specs.Script.{is_text, value, parsed_number}
 use Rattle.grid_model.specs.Scales.{top}
 use Rattle.std.specs.Prelude.{Result, Ok, Err}
 
-abbrev read_on : ℕ → List ℕ → ℕ
-read_on n w = fold (λ n b. n * 10 + (b - 48)) n w
+abbrev value_after : ℕ → List ℕ → ℕ
+value_after n w = fold (λ n b. n * 10 + (b - 48)) n w
 
-own : IsNumeralModel (λ ds. all_ascii_digits ds ≡ true) (read_on 0)
-own = numerals_by_fold _ tells_all_ascii_digits read_on (search rules)
+digits_numeral : IsNumeralModel (λ ds. all_ascii_digits ds ≡ true) (value_after 0)
+digits_numeral = numerals_by_fold _ tells_all_ascii_digits value_after (search rules)
 
 value-decimal : (n : ℕ) → n < 2 ^ 64 → value (decimal n) ≡ n
-value-decimal n h = digits_value-decimal own n h
+value-decimal n h = digits_value-decimal digits_numeral n h
 
 -- a word that is a number's print writes it
 pub number-found : (word : List ℕ) (n : ℕ) → n < 2 ^ 64 → word ≡ decimal n → parsed_number word ≡ Some n
@@ -27,16 +27,16 @@ number-found word n h e = subst (λ w. parsed_number w ≡ Some n) (sym e)
 
 -- any other word writes none
 pub number-none : (word : List ℕ) → ((n : ℕ) → n < 2 ^ 64 → word ≡ decimal n → ⊥) → parsed_number word ≡ None
-number-none word h = by (is_text (decimal (value word)) word && nat_le (value word) top) refl
+number-none word h = cases (is_text (decimal (value word)) word && nat_le (value word) top) refl
   where
     written : is_text (decimal (value word)) word ≡ true → word ≡ decimal (value word)
     written e = sym ((bytes_decides (decimal (value word)) word).0 e)
 
-    by : (t : Bool) → (is_text (decimal (value word)) word && nat_le (value word) top) ≡ t → cond t (Some (value word)) None ≡ None
-    by true e =
+    cases : (t : Bool) → (is_text (decimal (value word)) word && nat_le (value word) top) ≡ t → cond t (Some (value word)) None ≡ None
+    cases true e =
         let small : value word ≤ top = leb-true (value word) top (second (is_text (decimal (value word)) word) (nat_le (value word) top) e) in
         absurd (h (value word) (omega (arith, small)) (written (first (is_text (decimal (value word)) word) (nat_le (value word) top) e)))
-    by false e = refl
+    cases false e = refl
 
 -- a result is not both
 pub ok_or_err : {A E : Type 0} (r : Result A E) (x : A) (e : E) → r ≡ Ok x → r ≡ Err e → ⊥

@@ -7,13 +7,13 @@ use Rattle.grid_model.specs.Script.{is_text, pieces, parsed_side, parsed_side_of
 side-pieces : (word : List ℕ) (ps : List (List ℕ)) → is_text word (codes "*") ≡ false → pieces 46 word ≡ ps → parsed_side word ≡ parsed_side_of_pieces ps
 side-pieces word ps e p = ap (λ t. cond t (Some Any) (parsed_side_of_pieces (pieces 46 word))) e ∙ ap parsed_side_of_pieces p
 
-four : (low middle high : List ℕ) (ps : List (List ℕ)) → 0 < length ps → parsed_side_of_pieces (low ∷ middle ∷ high ∷ ps) ≡ None
-four low [] high [] h = absurd (omega (arith, h))
-four low [] high (p ∷ ps) h = refl
-four low (x ∷ middle) high [] h = refl
-four low (x ∷ middle) high (p ∷ ps) h = refl
+parsed_side_of_pieces-long : (low middle high : List ℕ) (ps : List (List ℕ)) → 0 < length ps → parsed_side_of_pieces (low ∷ middle ∷ high ∷ ps) ≡ None
+parsed_side_of_pieces-long low [] high [] h = absurd (omega (arith, h))
+parsed_side_of_pieces-long low [] high (p ∷ ps) h = refl
+parsed_side_of_pieces-long low (x ∷ middle) high [] h = refl
+parsed_side_of_pieces-long low (x ∷ middle) high (p ∷ ps) h = refl
 
 -- more than three pieces are no side
 pub side-long : (word low middle high : List ℕ) (ps qs rs : List (List ℕ)) → is_text word (codes "*") ≡ false → pieces 46 word ≡ low ∷ ps → ps ≡ middle ∷ qs → qs ≡ high ∷ rs → 0 < length rs → parsed_side word ≡ None
 side-long word low middle high ps qs rs e p q r some =
-    side-pieces word (low ∷ ps) e p ∙ ap (λ l. parsed_side_of_pieces (low ∷ l)) (q ∙ ap (λ l. middle ∷ l) r) ∙ four low middle high rs some
+    side-pieces word (low ∷ ps) e p ∙ ap (λ l. parsed_side_of_pieces (low ∷ l)) (q ∙ ap (λ l. middle ∷ l) r) ∙ parsed_side_of_pieces-long low middle high rs some

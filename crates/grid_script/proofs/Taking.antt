@@ -15,26 +15,26 @@ use Rattle.grid_model.proofs.Boxes.{one-value, some-not-none}
 use Rattle.grid_script.specs.Taken.{is_taken, AreTaken, IsScript, Refuses, IsRefused, IsFirstRefused, IsFault, RefusesNone}
 
 -- a text has no more lines than bytes
-few-onto : (b : ℕ) (ls : List (List ℕ)) (n : ℕ) → length ls ≤ n → length (onto_first b ls) ≤ suc n
-few-onto b [] n h = omega arith
-few-onto b (l ∷ ls) n h = omega (arith, h)
+length-onto_first : (b : ℕ) (ls : List (List ℕ)) (n : ℕ) → length ls ≤ n → length (onto_first b ls) ≤ suc n
+length-onto_first b [] n h = omega arith
+length-onto_first b (l ∷ ls) n h = omega (arith, h)
 
-few-lines : (bytes : List ℕ) → length (lines_of bytes) ≤ length bytes
+length-lines_of : (bytes : List ℕ) → length (lines_of bytes) ≤ length bytes
 unfolding lines_of
-few-lines [] = omega arith
-few-lines (b ∷ bs) = by (b == 10) (few-lines bs)
+length-lines_of [] = omega arith
+length-lines_of (b ∷ bs) = cases (b == 10) (length-lines_of bs)
   where
-    by : (t : Bool) → length (lines_of bs) ≤ length bs → length (cond t ([] ∷ lines_of bs) (onto_first b (lines_of bs))) ≤ suc (length bs)
-    by true h = omega (arith, h)
-    by false h = few-onto b (lines_of bs) (length bs) h
+    cases : (t : Bool) → length (lines_of bs) ≤ length bs → length (cond t ([] ∷ lines_of bs) (onto_first b (lines_of bs))) ≤ suc (length bs)
+    cases true h = omega (arith, h)
+    cases false h = length-onto_first b (lines_of bs) (length bs) h
 
-apart : (n m : ℕ) → (n == m) ≡ false → (n < m) ⊎ (m < n)
-apart n m e = grind (arith, nat_tests)
+lower_or_higher : (n m : ℕ) → (n == m) ≡ false → (n < m) ⊎ (m < n)
+lower_or_higher n m e = grind (arith, nat_tests)
 
-got-inside : {X : Type 0} (xs : List X) (i : ℕ) (x : X) → slice_get xs i ≡ Some x → i < length xs
-got-inside [] i x e = absurd (some-not-none x (sym e))
-got-inside (y ∷ ys) zero x e = omega arith
-got-inside (y ∷ ys) (suc i) x e = omega (arith, got-inside ys i x e)
+slice_get-inside : {X : Type 0} (xs : List X) (i : ℕ) (x : X) → slice_get xs i ≡ Some x → i < length xs
+slice_get-inside [] i x e = absurd (some-not-none x (sym e))
+slice_get-inside (y ∷ ys) zero x e = omega arith
+slice_get-inside (y ∷ ys) (suc i) x e = omega (arith, slice_get-inside ys i x e)
 
 module _ {K : ℕ} where
   -- line i is refused, where this client spoke before the first
@@ -52,27 +52,27 @@ module _ {K : ℕ} where
     pub refused : Bars client ms j
     pub first : (i : ℕ) → i < j → Bars client ms i → ⊥
 
-  one-line : (client : ℕ) (m : Meaning K) (ms : List (Meaning K)) → (Refuses client m → ⊥) → Bars client (m ∷ ms) 0 → ⊥
-  one-line client m ms p b = p (subst (Refuses client) (sym (one-value m b.says b.there)) b.refused)
+  first-bars : (client : ℕ) (m : Meaning K) (ms : List (Meaning K)) → (Refuses client m → ⊥) → Bars client (m ∷ ms) 0 → ⊥
+  first-bars client m ms p b = p (subst (Refuses client) (sym (one-value m b.says b.there)) b.refused)
 
-  behind : (client : ℕ) (m : Meaning K) (ms : List (Meaning K)) (i : ℕ) → Bars client (m ∷ ms) (suc i) → Bars (speaker client m) ms i
-  behind client m ms i b = record { says = b.says; there = b.there; refused = b.refused }
+  bars-tail : (client : ℕ) (m : Meaning K) (ms : List (Meaning K)) (i : ℕ) → Bars client (m ∷ ms) (suc i) → Bars (speaker client m) ms i
+  bars-tail client m ms i b = record { says = b.says; there = b.there; refused = b.refused }
 
-  later : (client : ℕ) (m : Meaning K) (ms : List (Meaning K)) (i : ℕ) → Bars (speaker client m) ms i → Bars client (m ∷ ms) (suc i)
-  later client m ms i b = record { says = b.says; there = b.there; refused = b.refused }
+  bars-cons : (client : ℕ) (m : Meaning K) (ms : List (Meaning K)) (i : ℕ) → Bars (speaker client m) ms i → Bars client (m ∷ ms) (suc i)
+  bars-cons client m ms i b = record { says = b.says; there = b.there; refused = b.refused }
 
   -- behind a line that passes all pass where the rest does
   passes-more : (client : ℕ) (m : Meaning K) (ms : List (Meaning K)) → (Refuses client m → ⊥) → Passes (speaker client m) ms → Passes client (m ∷ ms)
-  passes-more client m ms p h zero b = one-line client m ms p b
-  passes-more client m ms p h (suc i) b = h i (behind client m ms i b)
+  passes-more client m ms p h zero b = first-bars client m ms p b
+  passes-more client m ms p h (suc i) b = h i (bars-tail client m ms i b)
 
   -- and the first that is refused is one later
   stops-later : (client : ℕ) (m : Meaning K) (ms : List (Meaning K)) (j : ℕ) → (Refuses client m → ⊥) → Stops (speaker client m) ms j → Stops client (m ∷ ms) (suc j)
-  stops-later client m ms j p h = record { refused = later client m ms j h.refused; first = first }
+  stops-later client m ms j p h = record { refused = bars-cons client m ms j h.refused; first = first }
     where
       first : (i : ℕ) → i < suc j → Bars client (m ∷ ms) i → ⊥
-      first zero q b = one-line client m ms p b
-      first (suc i) q b = h.first i (omega (arith, q)) (behind client m ms i b)
+      first zero q b = first-bars client m ms p b
+      first (suc i) q b = h.first i (omega (arith, q)) (bars-tail client m ms i b)
 
   -- so far a text was read: where the rest passes all does, and where the rest stops all does
   pub record Follows (all : List (Meaning K)) (client : ℕ) (rest : List (Meaning K)) (number : ℕ) : Type 0 where
@@ -128,33 +128,33 @@ module _ {K : ℕ} where
   all-pass bytes client rest number e h i r = h.passes (empty-passes client rest e) i (as-barred (meanings K bytes) i r)
 
   -- what stands in a list that is made of some items was made of one
-  made-of : {X : Type 0} (f : X → Option (Line K)) (xs : List X) (l : Line K) → Contains (filter_map f xs) l → (x : X) × (f x ≡ Some l)
-  made-of f [] l c = absurd (omega (arith, c.1))
-  made-of {X = X} f (x ∷ xs) l c = by (f x) refl c (made-of f xs l)
+  filter_map-origin : {X : Type 0} (f : X → Option (Line K)) (xs : List X) (l : Line K) → Contains (filter_map f xs) l → (x : X) × (f x ≡ Some l)
+  filter_map-origin f [] l c = absurd (omega (arith, c.1))
+  filter_map-origin {X = X} f (x ∷ xs) l c = cases (f x) refl c (filter_map-origin f xs l)
     where
-      by : (o : Option (Line K)) → f x ≡ o → Contains (cons_option o (filter_map f xs)) l → (Contains (filter_map f xs) l → (y : X) × (f y ≡ Some l)) → (y : X) × (f y ≡ Some l)
-      by None e g rest = rest g
-      by (Some m) e (zero, p, q) rest = (x, e ∙ ap Some q)
-      by (Some m) e (suc k, p, q) rest = rest (k, omega (arith, p), q)
+      cases : (o : Option (Line K)) → f x ≡ o → Contains (cons_option o (filter_map f xs)) l → (Contains (filter_map f xs) l → (y : X) × (f y ≡ Some l)) → (y : X) × (f y ≡ Some l)
+      cases None e g rest = rest g
+      cases (Some m) e (zero, p, q) rest = (x, e ∙ ap Some q)
+      cases (Some m) e (suc k, p, q) rest = rest (k, omega (arith, p), q)
 
-  line-is : (client : ℕ) (m : Meaning K) (l : Line K) → line_of client m ≡ Some l → IsFalse (is_taken l) → Refuses client m
-  line-is client Silent l e f = absurd (some-not-none l (sym e))
-  line-is client (Speaks c) l e f = absurd (some-not-none l (sym e))
-  line-is client (Asks r) l e f = subst (λ x. IsFalse (is_taken x)) (sym (one-value (record { client = client; request = r }) l e)) f
-  line-is client Bad l e f = tt
+  untaken-refuses : (client : ℕ) (m : Meaning K) (l : Line K) → line_of client m ≡ Some l → IsFalse (is_taken l) → Refuses client m
+  untaken-refuses client Silent l e f = absurd (some-not-none l (sym e))
+  untaken-refuses client (Speaks c) l e f = absurd (some-not-none l (sym e))
+  untaken-refuses client (Asks r) l e f = subst (λ x. IsFalse (is_taken x)) (sym (one-value (record { client = client; request = r }) l e)) f
+  untaken-refuses client Bad l e f = tt
 
   -- a line that asks what is not taken is refused
   untaken-refused : (ms : List (Meaning K)) (i : ℕ) (l : Line K) → line_at ms i ≡ Some l → IsFalse (is_taken l) → IsRefused ms i
-  untaken-refused ms i l e f = by (slice_get ms i) refl
+  untaken-refused ms i l e f = cases (slice_get ms i) refl
     where
-      by : (o : Option (Meaning K)) → slice_get ms i ≡ o → IsRefused ms i
-      by None p = absurd (some-not-none l (sym e ∙ ap (λ x. option_and_then (line_of (speaker_at ms i)) x) p))
-      by (Some m) p = record { says = m; there = p; refused = line-is (speaker_at ms i) m l (sym (ap (λ x. option_and_then (line_of (speaker_at ms i)) x) p) ∙ e) f }
+      cases : (o : Option (Meaning K)) → slice_get ms i ≡ o → IsRefused ms i
+      cases None p = absurd (some-not-none l (sym e ∙ ap (λ x. option_and_then (line_of (speaker_at ms i)) x) p))
+      cases (Some m) p = record { says = m; there = p; refused = untaken-refuses (speaker_at ms i) m l (sym (ap (λ x. option_and_then (line_of (speaker_at ms i)) x) p) ∙ e) f }
 
   -- a script with a line that is not taken has one that is refused
   pub untaken-bars : (bytes : List ℕ) (asked : List (Line K)) (l : Line K) → length bytes ≤ longest → lines K bytes ≡ Ok asked → Contains asked l → IsFalse (is_taken l) → RefusesNone K bytes → ⊥
   untaken-bars bytes asked l short read c f none =
-      let made = made-of (line_at (meanings K bytes)) (below (length (meanings K bytes))) l (subst (λ ls. Contains ls l) (((one-script {K = K}).whole bytes asked short).0 read).1 c) in
+      let made = filter_map-origin (line_at (meanings K bytes)) (below (length (meanings K bytes))) l (subst (λ ls. Contains ls l) (((one-script {K = K}).whole bytes asked short).0 read).1 c) in
       none made.0 (untaken-refused (meanings K bytes) made.0 l made.1 f)
 
   -- a text that is no script of the grammar has a line that is refused
@@ -163,28 +163,28 @@ module _ {K : ℕ} where
 
   -- a text that is read is short enough
   pub read-short : (bytes : List ℕ) (asked : List (Line K)) → lines K bytes ≡ Ok asked → length bytes ≤ longest
-  read-short bytes asked e = by (nat_le (length bytes) longest) refl
+  read-short bytes asked e = cases (nat_le (length bytes) longest) refl
     where
-      by : (t : Bool) → nat_le (length bytes) longest ≡ t → length bytes ≤ longest
-      by true p = leb-true (length bytes) longest p
-      by false p = absurd (ok-is-no-err asked 0 (sym e ∙ ((one-script {K = K}).long bytes).1 (omega (arith, leb-false (length bytes) longest p))))
+      cases : (t : Bool) → nat_le (length bytes) longest ≡ t → length bytes ≤ longest
+      cases true p = leb-true (length bytes) longest p
+      cases false p = absurd (ok-is-no-err asked 0 (sym e ∙ ((one-script {K = K}).long bytes).1 (omega (arith, leb-false (length bytes) longest p))))
 
-  made-few : {X : Type 0} (f : X → Option (Line K)) (xs : List X) → length (filter_map f xs) ≤ length xs
-  made-few f [] = omega arith
-  made-few f (x ∷ xs) = by (f x) (made-few f xs)
+  length-filter_map : {X : Type 0} (f : X → Option (Line K)) (xs : List X) → length (filter_map f xs) ≤ length xs
+  length-filter_map f [] = omega arith
+  length-filter_map f (x ∷ xs) = cases (f x) (length-filter_map f xs)
     where
-      by : (o : Option (Line K)) → length (filter_map f xs) ≤ length xs → length (cons_option o (filter_map f xs)) ≤ suc (length xs)
-      by None h = omega (arith, h)
-      by (Some m) h = omega (arith, h)
+      cases : (o : Option (Line K)) → length (filter_map f xs) ≤ length xs → length (cons_option o (filter_map f xs)) ≤ suc (length xs)
+      cases None h = omega (arith, h)
+      cases (Some m) h = omega (arith, h)
 
   -- a script asks no more than it has bytes
   pub few-asked : (bytes : List ℕ) (asked : List (Line K)) → lines K bytes ≡ Ok asked → length asked ≤ length bytes
   few-asked bytes asked e =
-      omega (arith, ap length (((one-script {K = K}).whole bytes asked (read-short bytes asked e)).0 e).1, made-few (line_at (meanings K bytes)) (below (length (meanings K bytes))), length-range_with_len 0 (length (meanings K bytes)), length-map (lines_of bytes) (meaning K), few-lines bytes)
+      omega (arith, ap length (((one-script {K = K}).whole bytes asked (read-short bytes asked e)).0 e).1, length-filter_map (line_at (meanings K bytes)) (below (length (meanings K bytes))), length-range_with_len 0 (length (meanings K bytes)), length-map (lines_of bytes) (meaning K), length-lines_of bytes)
 
-  is-made : (f : ℕ → Option (Line K)) (a n i : ℕ) (l : Line K) → a ≤ i → i < a + n → f i ≡ Some l → Contains (filter_map f (range_with_len a n)) l
-  is-made f a zero i l p q e = absurd (omega (arith, p, q))
-  is-made f a (suc n) i l p q e = by (a == i) refl (is-made f (a + 1) n i l)
+  filter_map-contains : (f : ℕ → Option (Line K)) (a n i : ℕ) (l : Line K) → a ≤ i → i < a + n → f i ≡ Some l → Contains (filter_map f (range_with_len a n)) l
+  filter_map-contains f a zero i l p q e = absurd (omega (arith, p, q))
+  filter_map-contains f a (suc n) i l p q e = cases (a == i) refl (filter_map-contains f (a + 1) n i l)
     where
       after : (o : Option (Line K)) → Contains (filter_map f (range_with_len (a + 1) n)) l → Contains (cons_option o (filter_map f (range_with_len (a + 1) n))) l
       after None c = c
@@ -194,9 +194,9 @@ module _ {K : ℕ} where
       first None g = absurd (some-not-none l (sym g))
       first (Some m) g = (zero, omega arith, one-value m l g)
 
-      by : (t : Bool) → (a == i) ≡ t → (a + 1 ≤ i → i < a + 1 + n → f i ≡ Some l → Contains (filter_map f (range_with_len (a + 1) n)) l) → Contains (cons_option (f a) (filter_map f (range_with_len (a + 1) n))) l
-      by true g rest = first (f a) (ap f (eqb-true a i g) ∙ e)
-      by false g rest = after (f a) (rest (grind (arith, p, g)) (omega (arith, q)) e)
+      cases : (t : Bool) → (a == i) ≡ t → (a + 1 ≤ i → i < a + 1 + n → f i ≡ Some l → Contains (filter_map f (range_with_len (a + 1) n)) l) → Contains (cons_option (f a) (filter_map f (range_with_len (a + 1) n))) l
+      cases true g rest = first (f a) (ap f (eqb-true a i g) ∙ e)
+      cases false g rest = after (f a) (rest (grind (arith, p, g)) (omega (arith, q)) e)
 
   -- a line of a script is taken
   taken-one : (asked : List (Line K)) (l : Line K) → AreTaken asked → Contains asked l → IsTrue (is_taken l)
@@ -204,7 +204,7 @@ module _ {K : ℕ} where
 
   -- no line of a script is refused
   none-refused : (bytes : List ℕ) (asked : List (Line K)) → IsScript bytes asked → RefusesNone K bytes
-  none-refused bytes asked s i r = by r.says r.there r.refused
+  none-refused bytes asked s i r = cases r.says r.there r.refused
     where
       ms : List (Meaning K)
       ms = meanings K bytes
@@ -212,13 +212,13 @@ module _ {K : ℕ} where
       says : ((j : ℕ) → slice_get ms j ≡ Some Bad → ⊥) × (asked ≡ filter_map (line_at ms) (below (length ms)))
       says = ((one-script {K = K}).whole bytes asked (read-short bytes asked s.read)).0 s.read
 
-      by : (m : Meaning K) → slice_get ms i ≡ Some m → Refuses (speaker_at ms i) m → ⊥
-      by Silent e f = f
-      by (Speaks c) e f = f
-      by Bad e f = says.0 i e
-      by (Asks q) e f =
+      cases : (m : Meaning K) → slice_get ms i ≡ Some m → Refuses (speaker_at ms i) m → ⊥
+      cases Silent e f = f
+      cases (Speaks c) e f = f
+      cases Bad e f = says.0 i e
+      cases (Asks q) e f =
           let l : Line K = record { client = speaker_at ms i; request = q } in
-          let listed = is-made (line_at ms) 0 (length ms) i l (omega arith) (omega (arith, got-inside ms i (Asks q) e)) (ap (λ x. option_and_then (line_of (speaker_at ms i)) x) e) in
+          let listed = filter_map-contains (line_at ms) 0 (length ms) i l (omega arith) (omega (arith, slice_get-inside ms i (Asks q) e)) (ap (λ x. option_and_then (line_of (speaker_at ms i)) x) e) in
           true≢false (sym (taken-one asked l s.taken (subst (λ ls. Contains ls l) (sym says.1) listed)) ∙ f)
 
   -- a script has no fault
@@ -230,20 +230,20 @@ module _ {K : ℕ} where
   not-before bytes n m f g lt = g.first (n - 1) (omega (arith, f.some, lt)) f.refused
 
   first-one : (bytes : List ℕ) (n m : ℕ) → IsFirstRefused K bytes n → IsFirstRefused K bytes m → n ≡ m
-  first-one bytes n m f g = by (n == m) refl
+  first-one bytes n m f g = cases (n == m) refl
     where
-      by : (t : Bool) → (n == m) ≡ t → n ≡ m
-      by true e = eqb-true n m e
-      by false e = absurd (⊎_elim (not-before bytes n m f g) (not-before bytes m n g f) (apart n m e))
+      cases : (t : Bool) → (n == m) ≡ t → n ≡ m
+      cases true e = eqb-true n m e
+      cases false e = absurd (⊎_elim (not-before bytes n m f g) (not-before bytes m n g f) (lower_or_higher n m e))
 
   -- a text has one fault at most
   pub fault-one : (bytes : List ℕ) (n m : ℕ) → IsFault K bytes n → IsFault K bytes m → n ≡ m
-  fault-one bytes n m f g = by (nat_le (length bytes) longest) refl
+  fault-one bytes n m f g = cases (nat_le (length bytes) longest) refl
     where
-      by : (t : Bool) → nat_le (length bytes) longest ≡ t → n ≡ m
-      by true e =
+      cases : (t : Bool) → nat_le (length bytes) longest ≡ t → n ≡ m
+      cases true e =
           let short : length bytes ≤ longest = leb-true (length bytes) longest e in
           first-one bytes n m (f.short short) (g.short short)
-      by false e =
+      cases false e =
           let long : longest < length bytes = omega (arith, leb-false (length bytes) longest e) in
           f.long long ∙ sym (g.long long)

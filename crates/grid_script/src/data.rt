@@ -5,7 +5,7 @@ ghost use Rattle.grid_model.specs.Script.{parsed_data};
 use grid_types::Data;
 
 /// The data that a field writes: two digits for each byte, or a dash for no bytes.
-pub fn data_of(field: &[u8]) -> Option<Data>
+pub fn parse_data(field: &[u8]) -> Option<Data>
     ensures { result ≡ parsed_data field.now }
 {
     if field == b"-".as_slice() {

@@ -12,7 +12,7 @@ mod taken;
 mod tests;
 mod text;
 
-pub use printer::{add_first, add_row, print_part, rows_of};
+pub use printer::{add_first, add_row, rows_of};
 pub use reader::read_script;
 pub use script::{Script, ScriptFault};
 pub use taken::{read_taken, taken_law};

@@ -7,7 +7,8 @@ use memchr::memchr;
 
 /// What stands in front of the first such byte, and what stands behind it.
 pub fn split_first(text: &[u8], byte: u8) -> Option<(&[u8], &[u8])>
-    ensures found { IfSome result (λ p. (text.now ≡ p.0.now ++ byte ∷ p.1.now) × Without byte p.0.now) }
+    ensures found { IfSome result (λ p.
+        (text.now ≡ p.0.now ++ byte ∷ p.1.now) × Without byte p.0.now) }
     ensures none { IfNone result (Without byte text.now) }
 {
     match memchr(byte, text) {

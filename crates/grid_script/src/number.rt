@@ -5,7 +5,7 @@ ghost use Rattle.grid_model.specs.Script.{parsed_number};
 use itoa::Buffer;
 
 /// The number that a text writes: digits, with no zero in front of others.
-pub fn number_of(text: &[u8]) -> Option<u64>
+pub fn parse_number(text: &[u8]) -> Option<u64>
     ensures found { IfSome result (λ n. text.now ≡ decimal n) }
     ensures none { IfNone result ((n : ℕ) → n < 2 ^ 64 → text.now ≡ decimal n → ⊥) }
     ensures value { result ≡ parsed_number text.now }

@@ -39,7 +39,8 @@ fn is_taken<const K: usize>(line: &Line<K>) -> bool
 /// Whether the program takes each of some lines.
 fn are_taken<const K: usize>(lines: &[Line<K>]) -> bool
     ensures taken { IsTrue result → AreTaken lines.now }
-    ensures untaken { IsFalse result → (line : Line K) × Contains lines.now line × IsFalse (is_taken line) }
+    ensures untaken { IsFalse result
+        → (line : Line K) × Contains lines.now line × IsFalse (is_taken line) }
 {
     for line in lines {
         if !is_taken(line) {
@@ -134,6 +135,7 @@ pub fn read_taken<const K: usize>(alloc: Global, bytes: &[u8]) -> Result<Script<
 
 /// The law of the program's scripts: a script has no fault, and a text has one fault at most.
 pub fn taken_law<const K: usize>()
-    ensures sound { (bytes : List ℕ) (asked : List (Line K)) (n : ℕ) → IsScript bytes asked → IsFault K bytes n → ⊥ }
+    ensures sound { (bytes : List ℕ) (asked : List (Line K)) (n : ℕ) → IsScript bytes asked
+        → IsFault K bytes n → ⊥ }
     ensures one { (bytes : List ℕ) (n m : ℕ) → IsFault K bytes n → IsFault K bytes m → n ≡ m }
 {}

@@ -1,7 +1,8 @@
 //! The parts of a printed line.
 ghost use Rattle.std.specs.Prelude.{◌≡◌, ◌≤◌, ◌+◌, ◌++◌, length, decimal, codes};
 ghost use Rattle.arrayvec.specs.ArrayVec.{array_vec_len};
-ghost use Rattle.grid_model.specs.Text.{hex_text, numbered, put_text, got_text, refusal_text, ended, front_line};
+ghost use Rattle.grid_script.specs.Fields.{found_text};
+ghost use Rattle.grid_model.specs.Text.{hex_text, numbered, refusal_text, ended, front_line};
 
 use arrayvec::ArrayVec;
 use grid_types::{Data, Refusal};
@@ -54,31 +55,17 @@ pub fn print_data(value: &Data, out: &mut Text)
     }
 }
 
-/// What a put found.
-pub fn print_put(value: &Option<Data>, out: &mut Text)
-    requires { array_vec_len out.old + 85 ≤ 4096 }
-    ensures items { out.new.items ≡ out.old.items ++ put_text value.now }
-    ensures len { array_vec_len out.new ≤ array_vec_len out.old + 85 }
+/// A word where there is no data, or else another word and the data.
+pub fn print_found(absent: &[u8], word: &[u8], value: &Option<Data>, out: &mut Text)
+    requires { array_vec_len out.old + length absent.now + length word.now + 80 ≤ 4096 }
+    ensures items { out.new.items ≡ out.old.items ++ found_text absent.now word.now value.now }
+    ensures len { array_vec_len out.new
+        ≤ array_vec_len out.old + length absent.now + length word.now + 80 }
 {
     match value {
-        None => print_bytes(b" new", out),
+        None => print_bytes(absent, out),
         Some(data) => {
-            print_bytes(b" old ", out);
-            print_data(data, out);
-        }
-    }
-}
-
-/// What a get found.
-pub fn print_got(value: &Option<Data>, out: &mut Text)
-    requires { array_vec_len out.old + 85 ≤ 4096 }
-    ensures items { out.new.items ≡ out.old.items ++ got_text value.now }
-    ensures len { array_vec_len out.new ≤ array_vec_len out.old + 85 }
-{
-    match value {
-        None => print_bytes(b" none", out),
-        Some(data) => {
-            print_bytes(b" = ", out);
+            print_bytes(word, out);
             print_data(data, out);
         }
     }
@@ -87,8 +74,10 @@ pub fn print_got(value: &Option<Data>, out: &mut Text)
 /// A word and a number, and another word and number.
 pub fn print_pair(first: &[u8], n: u64, second: &[u8], m: u64, out: &mut Text)
     requires { array_vec_len out.old + length first.now + length second.now + 40 ≤ 4096 }
-    ensures items { out.new.items ≡ out.old.items ++ (numbered first.now n ++ numbered second.now m) }
-    ensures len { array_vec_len out.new ≤ array_vec_len out.old + length first.now + length second.now + 40 }
+    ensures items { out.new.items
+        ≡ out.old.items ++ (numbered first.now n ++ numbered second.now m) }
+    ensures len { array_vec_len out.new
+        ≤ array_vec_len out.old + length first.now + length second.now + 40 }
 {
     print_numbered(first, n, out);
     print_numbered(second, m, out);
@@ -136,9 +125,9 @@ pub fn print_refusal(refusal: &Refusal, out: &mut Text)
 /// Adds the line with the front.
 #[tactic(auto, unfolding(grid_model::specs::Text::front_line))]
 pub fn add_front(front: u64, out: &mut Text)
-    requires room { array_vec_len out.old + 192 ≤ 4096 }
+    requires room { array_vec_len out.old + LINE ≤ 4096 }
     ensures line { out.new.items ≡ out.old.items ++ front_line front }
-    ensures len { array_vec_len out.new ≤ array_vec_len out.old + 192 }
+    ensures len { array_vec_len out.new ≤ array_vec_len out.old + LINE }
 {
     print_numbered(b"front ", front, out);
     print_bytes(b"\n", out);
@@ -146,9 +135,9 @@ pub fn add_front(front: u64, out: &mut Text)
 
 /// Adds the line that names a client.
 pub fn add_client(client: u32, out: &mut Text)
-    requires room { array_vec_len out.old + 192 ≤ 4096 }
+    requires room { array_vec_len out.old + LINE ≤ 4096 }
     ensures line { out.new.items ≡ out.old.items ++ ended (numbered (codes "client ") client) }
-    ensures len { array_vec_len out.new ≤ array_vec_len out.old + 192 }
+    ensures len { array_vec_len out.new ≤ array_vec_len out.old + LINE }
 {
     print_numbered(b"client ", client.into(), out);
     print_bytes(b"\n", out);

@@ -1,6 +1,6 @@
 -- One error in the results of two calls.
 use Rattle.std.proofs.Common.{◌≡◌, ap}
-use Rattle.std.specs.Prelude.{Result, Ok, Err, IsErrOf, IfOk}
+use Rattle.std.specs.Prelude.{Result, Ok, Err, IsErrOf, IsErrAnd, IfOk, MatchResult}
 
 pub same_value : {T E : Type 0} (e f : E) → IsErrOf {T = T} {E = E} (Err e) f → e ≡ f
 same_value e f h = cc
@@ -17,3 +17,8 @@ error_of {T} {E} e f h = let P : E → Result T E = λ x. Err x in ap P h
 pub both_ok : {T E : Type 0} (r : Result T E) (P Q R : T → Type 0) → IfOk r P → IfOk r Q → ((x : T) → P x → Q x → R x) → IfOk r R
 both_ok (Ok x) P Q R p q join = join x p q
 both_ok (Err e) P Q R p q join = tt
+
+-- an error that goes on to the caller
+pub match-err : {T E : Type 0} (r : Result T E) (P : T → Type 0) (Q R : E → Type 0) → IsErrAnd r R → ((e : E) → R e → Q e) → MatchResult r P Q
+match-err (Ok x) P Q R is on = absurd is
+match-err (Err e) P Q R is on = on e is

@@ -1,14 +1,16 @@
 -- The text of a run, reply by reply.
-use Rattle.std.proofs.Common.{◌≡◌, ◌<◌, ◌+◌, ℕ, List, [], ◌∷◌, ◌++◌, map, length, take, get_or, drop, refl, sym, ap, ◌∙◌, append_assoc, codes, subst, arith}
+use Rattle.std.proofs.Common.{◌≡◌, ◌<◌, ◌+◌, ℕ, List, [], ◌∷◌, ◌++◌, map, Ok, length, take, get_or, drop, refl, sym, ap, ◌∙◌, append_assoc, codes, subst, arith}
 use Rattle.std.specs.List.{flat_map}
 use Rattle.std.proofs.lemmas.List.{append-nil, flat_map_more, take_more, take_all, take-append-drop}
 use Rattle.std.proofs.lemmas.Grind.{flat_map-append}
-use Rattle.disk_trait.specs.Streams.{Adds}
+use Rattle.disk_trait.specs.declared.sink.Sink.{Ghosts}
+use Rattle.disk_trait.specs.Streams.{AddsFront}
 use Rattle.grid_types.specs.declared.request.Reply.{Reply}
 use Rattle.grid_types.specs.declared.update.Record.{Record}
 use Rattle.grid_model.specs.Text.{numbered, ended, reply_lines, row_text, front_line, group_lines, text_lines, text}
-use Rattle.grid_shell.specs.Runs.{group_of}
-use Rattle.grid_shell.proofs.Adding.{adds_longer, adds_next}
+use Rattle.grid_shell.specs.Printing.{Passes}
+use Rattle.grid_shell.specs.Replies.{group_of}
+use Rattle.grid_shell.proofs.Adding.{adds_longer, passes_more}
 
 -- the text of a reply: its lines, each with its end
 abbrev pub reply_text : {K : ℕ} → Reply K → List ℕ
@@ -23,7 +25,7 @@ title (r ∷ rs) = ended (numbered (codes "client ") 1)
 abbrev pub text_to : {K : ℕ} → List (Reply K) → ℕ → List ℕ
 text_to rs i = title rs ++ flat_map reply_text (take i rs)
 
-pub text_more : {K : ℕ} (rs : List (Reply K)) (i : ℕ) (d : Reply K) → i < length rs → text_to rs (i + 1) ≡ text_to rs i ++ reply_text (get_or rs i d)
+text_more : {K : ℕ} (rs : List (Reply K)) (i : ℕ) (d : Reply K) → i < length rs → text_to rs (i + 1) ≡ text_to rs i ++ reply_text (get_or rs i d)
 text_more rs i d lt = ap (λ qs. title rs ++ flat_map reply_text qs) (take_more rs i d lt) ∙ sym (flat_map_more reply_text (title rs) (take i rs) (get_or rs i d))
 
 -- the lines of all replies, each with its end
@@ -69,48 +71,27 @@ module _ {K : ℕ} (r : Reply K) (first : List ℕ) (rows : List (Record K)) (li
   pub rows_all : (n : ℕ) → length rows ≡ n → rows_to first rows n ≡ reply_text r
   rows_all n e = ap (rows_to first rows) (sym e) ∙ rows_whole
 
-  -- a front of the first lines is one of all of them
-  pub adds_rows : (old new had : List ℕ) (i : ℕ) → Adds old new (had ++ rows_to first rows i) → Adds old new (had ++ reply_text r)
-  adds_rows old new had i a =
-      let rest = flat_map row_line (drop i rows) in
-      let all : rows_to first rows i ++ rest ≡ reply_text r =
-      append_assoc (ended first) (flat_map row_line (take i rows)) rest
+  -- the first lines, and the rest of them
+  pub rows_rest : (had : List ℕ) (i : ℕ) → (had ++ rows_to first rows i) ++ flat_map row_line (drop i rows) ≡ had ++ reply_text r
+  rows_rest had i =
+      append_assoc had (rows_to first rows i) (flat_map row_line (drop i rows))
+      ∙ ap (λ (t : List ℕ). had ++ t) (
+      append_assoc (ended first) (flat_map row_line (take i rows)) (flat_map row_line (drop i rows))
       ∙ ap (λ (xs : List ℕ). ended first ++ xs) (sym (flat_map-append row_line (take i rows) (drop i rows)) ∙ ap (flat_map row_line) (take-append-drop i rows ∙ sym (take_all (length rows) rows (omega arith))))
-      ∙ rows_whole in
-      subst (λ (t : List ℕ). Adds old new t) (append_assoc had (rows_to first rows i) rest ∙ ap (λ (t : List ℕ). had ++ t) all) (adds_longer old new (had ++ rows_to first rows i) rest a)
+      ∙ rows_whole)
 
--- one piece more in the buffer
-pub one_more : (sent now before had all line next : List ℕ) → now ≡ before ++ line → sent ++ before ≡ had ++ all → next ≡ all ++ line → sent ++ now ≡ had ++ next
-one_more sent now before had all line next n e l =
-    ap (λ (xs : List ℕ). sent ++ xs) n
-    ∙ sym (append_assoc sent before line)
-    ∙ ap (λ (xs : List ℕ). xs ++ line) e
-    ∙ append_assoc had all line
-    ∙ ap (λ (xs : List ℕ). had ++ xs) (sym l)
-
--- pieces more, of which some stand in the buffer
-pub pieces_more : (old new lines piece had all next : List ℕ) → new ≡ old ++ (lines ++ piece) → old ++ lines ≡ had ++ all → next ≡ all ++ piece → new ≡ had ++ next
-pieces_more old new lines piece had all next n e l =
-    n
-    ∙ sym (append_assoc old lines piece)
-    ∙ ap (λ (xs : List ℕ). xs ++ piece) e
-    ∙ append_assoc had all piece
-    ∙ ap (λ (xs : List ℕ). had ++ xs) (sym l)
-
--- and what was received of them
-pub adds_pieces : (old new lines piece had all next : List ℕ) → Adds had old all → Adds old new (lines ++ piece) → old ++ lines ≡ had ++ all → next ≡ all ++ piece → Adds had new next
-adds_pieces old new lines piece had all next a b e l =
-    adds_next had old new next (lines ++ piece)
-    (subst (λ (t : List ℕ). Adds had old t) (sym l) (adds_longer had old all piece a))
-    (pieces_more old (old ++ (lines ++ piece)) lines piece had all next refl e l)
-    b
+-- the first replies have passed into sink and buffer, and the next one stands behind them
+pub passes_reply : {K : ℕ} {O E : Type 0} {g : Ghosts O} (rs : List (Reply K)) (i : ℕ) (r : Reply K) → i < length rs → r ≡ get_or rs i r → (buffered : List ℕ) (old now : O) → Passes {E = E} g (text_to rs i) buffered old now (Ok tt) → Passes {E = E} g (text_to rs (i + 1)) (buffered ++ reply_text r) old now (Ok tt)
+passes_reply rs i r lt is buffered old now p =
+    passes_more (text_to rs i) buffered (buffered ++ reply_text r) (reply_text r) (text_to rs (i + 1)) old now p refl
+    (text_more rs i r lt ∙ ap (λ q. text_to rs i ++ reply_text q) (sym is))
 
 -- a front of the first replies is one of the whole text
-pub adds_text : {K : ℕ} (rs : List (Reply K)) (i front : ℕ) (old new : List ℕ) → Adds old new (text_to rs i) → Adds old new (text (group_of rs) front)
+pub adds_text : {K : ℕ} (rs : List (Reply K)) (i front : ℕ) (old new : List ℕ) → AddsFront old new (text_to rs i) → AddsFront old new (text (group_of rs) front)
 adds_text rs i front old new a =
     let rest = flat_map reply_text (drop i rs) in
     let lines : text_to rs i ++ rest ≡ text_to rs (length rs) =
     append_assoc (title rs) (flat_map reply_text (take i rs)) rest
     ∙ ap (λ (xs : List ℕ). title rs ++ xs) (sym (flat_map-append reply_text (take i rs) (drop i rs)) ∙ ap (flat_map reply_text) (take-append-drop i rs ∙ sym (take_all (length rs) rs (omega arith)))) in
-    subst (λ (t : List ℕ). Adds old new t) (ap (λ (xs : List ℕ). xs ++ front_line front) lines ∙ all_text rs (length rs) front refl)
+    subst (λ (t : List ℕ). AddsFront old new t) (ap (λ (xs : List ℕ). xs ++ front_line front) lines ∙ all_text rs (length rs) front refl)
     (adds_longer old new (text_to rs i ++ rest) (front_line front) (adds_longer old new (text_to rs i) rest a))

@@ -1,6 +1,9 @@
 pub mod Commands
+pub mod Statuses
 pub mod Endings
 pub mod Standing
+pub mod Calls
+pub mod Replies
+pub mod Printing
 pub mod Runs
-pub mod Serving
 pub mod Ran

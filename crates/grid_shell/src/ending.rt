@@ -1,11 +1,10 @@
 //! How a run ends.
-ghost use Rattle.std.specs.Prelude.{◌≡◌, max};
-ghost use Rattle.grid_shell.specs.Endings.{status_of, with_fault_of, refusal_end, fault_end, line_end, worst_of, IsLineEnd, HasBegun};
+ghost use Rattle.std.specs.Prelude.{◌≡◌, ◌⊎◌, max};
+ghost use Rattle.grid_shell.specs.Statuses.{status_of_refusal, status_of_reply, greatest_status, status_with_fault};
 
-use grid_script::ScriptFault;
 use grid_types::{Refusal, Reply};
 
-/// How a run ends. Each end has a status of its own, and later ones have greater statuses.
+/// How a run ends. Each ending has a status of its own, and later ones have greater statuses.
 #[derive(Clone, Copy, Debug, PartialEq, Eq)]
 pub enum Ending {
     /// Every line was answered.
@@ -22,9 +21,13 @@ pub enum Ending {
     Memory,
     /// A line was refused.
     Refused,
+    /// A line may be in the file or not, or met a session that had stopped.
+    Unsure,
 }
 
 impl Ending {
+    ghost use Rattle.grid_shell.specs.Endings.{status_of};
+
     /// The status that the process ends with.
     pub fn status(self) -> u8
         ensures { result ≡ status_of self }
@@ -37,35 +40,24 @@ impl Ending {
             Ending::Device => 5,
             Ending::Memory => 6,
             Ending::Refused => 7,
+            Ending::Unsure => 8,
         }
     }
 
-    /// The end of a run whose script was not read.
-    pub fn of_fault(fault: ScriptFault) -> Ending
-        ensures { result ≡ fault_end fault }
-    {
-        match fault {
-            ScriptFault::Line(line) => Ending::BadScript { line },
-            ScriptFault::NoMemory => Ending::Memory,
-        }
-    }
-
-    /// The end where a device has failed too.
+    /// The ending where a device has failed too.
     pub fn with_fault(self) -> Ending
-        ensures value { result ≡ with_fault_of self }
-        ensures begun { HasBegun self → HasBegun result }
+        ensures status { status_of result ≡ status_with_fault (status_of self) }
+        ensures kept { (result ≡ self) ⊎ (result ≡ Ending.Device) }
     {
         match self {
-            Ending::Done => Ending::Device,
-            Ending::Damaged => Ending::Device,
+            Ending::Done | Ending::Damaged => Ending::Device,
             other => other,
         }
     }
 
     /// The one of greater status.
     fn or_worse(self, other: Ending) -> Ending
-        ensures status { status_of result ≡ max (status_of self) (status_of other) }
-        ensures line { IsLineEnd self → IsLineEnd other → IsLineEnd result }
+        ensures { status_of result ≡ max (status_of self) (status_of other) }
     {
         if self.status() < other.status() {
             other
@@ -75,19 +67,17 @@ impl Ending {
     }
 
     fn of_refusal(refusal: &Refusal) -> Ending
-        ensures value { result ≡ refusal_end refusal.now }
-        ensures line { IsLineEnd result }
+        ensures { status_of result ≡ status_of_refusal refusal.now }
     {
         match refusal {
             Refusal::NoMemory => Ending::Memory,
             Refusal::ReadFault | Refusal::WriteFault => Ending::Done,
+            Refusal::Unsure { .. } | Refusal::Stopped { .. } => Ending::Unsure,
             Refusal::Damaged { .. }
             | Refusal::Foreign
             | Refusal::Version { .. }
             | Refusal::Arity { .. } => Ending::Damaged,
-            Refusal::Unsure { .. }
-            | Refusal::Stopped { .. }
-            | Refusal::Full { .. }
+            Refusal::Full { .. }
             | Refusal::NoCut { .. }
             | Refusal::Seats
             | Refusal::BadShape
@@ -97,8 +87,7 @@ impl Ending {
     }
 
     fn of_line<const K: usize>(reply: &Reply<K>) -> Ending
-        ensures value { result ≡ line_end reply.now }
-        ensures line { IsLineEnd result }
+        ensures { status_of result ≡ status_of_reply reply.now }
     {
         match reply {
             Reply::Put(_)
@@ -112,10 +101,9 @@ impl Ending {
         }
     }
 
-    /// The end of greatest status that the lines make.
+    /// The ending of greatest status that the lines make.
     pub fn worst<const K: usize>(replies: &[Reply<K>]) -> Ending
-        ensures status { status_of result ≡ worst_of replies.now }
-        ensures line { IsLineEnd result }
+        ensures { status_of result ≡ greatest_status replies.now }
     {
         let mut worst = Ending::Done;
         for reply in replies {

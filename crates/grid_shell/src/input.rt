@@ -22,11 +22,14 @@ pub fn read_all<S: Source>(
     source: &mut S,
     most: usize,
 ) -> Result<Vec<u8>, InputFault>
-    ensures bytes { IsTrue (S.tells source.old) → IfOk result (λ v. v.items ≡ take most (S.left source.old)) }
+    ensures bytes { IsTrue (S.tells source.old)
+        → IfOk result (λ v. v.items ≡ take most (S.left source.old)) }
     ensures bound { IfOk result (λ v. vec_len v ≤ most) }
-    ensures lost { IsTrue (S.tells source.old) → LostAtMost most (S.left source.old) (S.left source.new) }
+    ensures lost { IsTrue (S.tells source.old)
+        → LostAtMost most (S.left source.old) (S.left source.new) }
     ensures later { S.fault_count source.old ≤ S.fault_count source.new }
-    ensures failed { IsErrOf result InputFault.Source → Rose (S.fault_count source.old) (S.fault_count source.new) }
+    ensures failed { IsErrOf result InputFault.Source
+        → Rose (S.fault_count source.old) (S.fault_count source.new) }
 {
     let mut bytes = Vec::new(alloc);
     let mut piece = [0; PIECE];

@@ -1,19 +1,24 @@
 //! A lone caller over a file of one bucket, which nothing divides.
-ghost use Rattle.std.specs.Prelude.{◌≡◌, ◌≢◌, ◌≤◌, ◌<◌, ◌+◌, ◌⊎◌, ◌↔◌, [], List, ℕ, true, false, is_some, IsTrue, IfSome, OnSome, IfOk, IfErr, OnOk, OnErr, IsErrOf, length};
+ghost use Rattle.std.specs.Prelude.{◌≡◌, ◌≢◌, ◌≤◌, ◌<◌, ◌+◌, ◌⊎◌, ◌↔◌, [], List, ℕ, is_some, IsTrue, IfSome, OnSome, IfOk, IfErr, OnOk, MatchResult, IsErrOf, length};
 ghost use Rattle.grid_types.specs.Keys.{IsKey};
 ghost use Rattle.grid_types.specs.Regions.{Within};
-ghost use Rattle.grid_types.specs.declared.refusal.Refusal.TheVariants.{ReadFault, WriteFault, Damaged, NoCut, Worn};
-ghost use Rattle.grid_model.specs.Tables.{Table, get, with_data, pairs_of};
-ghost use Rattle.disk_trait.specs.Causes.{HasCause, Rose};
-ghost use Rattle.bucket_page.specs.declared.bucket.Bucket.{Bucket};
-ghost use Rattle.bucket_page.specs.Spelling.{IsBucket, spelling};
 ghost use Rattle.grid_types.specs.Pages.{page_of};
-ghost use Rattle.grid_shell.specs.Standing.{takes, worn_at, IsExpected, IsDamaged, IsFull, Answers, HoldsPut, HasBucket, StandsFor, CanRefuse};
+ghost use Rattle.grid_types.specs.declared.refusal.Refusal.TheVariants.{ReadFault, WriteFault, Damaged, NoCut, Worn};
+ghost use Rattle.grid_types.specs.declared.sizes.TheConstants.{MOST_ATTRIBUTES, MOST_RECORDS, PAGE_BYTES};
+ghost use Rattle.grid_model.specs.Tables.{Table, IsTable, get, with_data, pairs_of};
+ghost use Rattle.grid_model.specs.Spellings.{bucket_spelling};
+ghost use Rattle.grid_model.specs.Buckets.{IsBucket};
+ghost use Rattle.disk_trait.specs.Causes.{HasCause, Rose};
+ghost use Rattle.disk_trait.specs.Disk.{Agrees};
+ghost use Rattle.disk_trait.specs.Calls.{OnlyReads, Changes, HasCauses};
+ghost use Rattle.bucket_page.specs.Buckets.{bucket_of};
+ghost use Rattle.grid_shell.specs.Standing.{takes, worn_at, IsExpected, Answers, HoldsPut, StandsFor, TellsTable};
+ghost use Rattle.grid_shell.specs.Calls.{RefusesGet, RefusesPut, PutsInto, RefusesPutInto};
 
 use arrayvec::ArrayVec;
 use bucket_page::{Bucket, decode, encode};
-use disk_trait::{Disk, DiskFailed, Steps};
-use grid_types::{Answer, Data, Key, Record, Refusal, Region};
+use disk_trait::{Disk, DiskFailed, Steps, read_page};
+use grid_types::{Answer, Data, Key, PAGE_BYTES, Record, Refusal, Region};
 use std::sync::ledger::Ledger;
 
 /// An update needs a front below this.
@@ -27,9 +32,9 @@ pub struct Lone<D: Disk> {
     /// How many updates were made.
     pub front: u64,
     /// The bytes that were read or written last.
-    pub page: [u8; 4096],
-    ghost has_page: { 4096 ≤ D.extent disk },
-    ghost lawful: { capacity ≤ 48 },
+    pub page: [u8; PAGE_BYTES],
+    ghost has_page: { PAGE_BYTES ≤ D.extent disk },
+    ghost lawful: { capacity ≤ MOST_RECORDS },
 }
 
 /// Why a disk was not begun, with that disk.
@@ -41,6 +46,7 @@ pub struct OpenFault<D: Disk> {
 
 /// The data that a bucket has at a key.
 fn data_at<const K: usize>(bucket: &Bucket<K>, key: &Key<K>) -> Option<Data>
+    requires { IsTable (pairs_of bucket.now.rows.items) }
     ensures { result ≡ get (pairs_of bucket.now.rows.items) key.now.numbers }
 {
     match bucket.find(key) {
@@ -51,6 +57,7 @@ fn data_at<const K: usize>(bucket: &Bucket<K>, key: &Key<K>) -> Option<Data>
 
 /// Whether a bucket of this capacity has the key, or has room for it.
 fn has_place<const K: usize>(bucket: &Bucket<K>, key: &Key<K>, capacity: u16) -> bool
+    requires { IsTable (pairs_of bucket.now.rows.items) }
     ensures { result ≡ takes capacity (pairs_of bucket.now.rows.items) key.now.numbers }
 {
     match bucket.find(key) {
@@ -65,33 +72,41 @@ fn put_within<const K: usize>(
     row: &Record<K>,
     capacity: u16,
 ) -> Option<Option<Data>>
-    requires lawful { capacity ≤ 48 }
-    requires bucket { IsBucket K capacity bucket.old }
-    ensures taken { is_some result ≡ takes capacity (pairs_of bucket.old.rows.items) row.now.key.numbers }
-    ensures old { IfSome result (λ value. value ≡ get (pairs_of bucket.old.rows.items) row.now.key.numbers) }
-    ensures rows { OnSome result (pairs_of bucket.new.rows.items ≡ with_data (pairs_of bucket.old.rows.items) row.now.key.numbers row.now.value) }
+    requires lawful { capacity ≤ MOST_RECORDS }
+    requires bucket { IsBucket capacity (bucket_of bucket.old) }
+    ensures taken { is_some result
+        ≡ takes capacity (pairs_of bucket.old.rows.items) row.now.key.numbers }
+    ensures old { IfSome result (λ value.
+        value ≡ get (pairs_of bucket.old.rows.items) row.now.key.numbers) }
+    ensures rows { OnSome result (pairs_of bucket.new.rows.items
+        ≡ with_data (pairs_of bucket.old.rows.items) row.now.key.numbers row.now.value) }
     ensures count { OnSome result (length bucket.new.rows.items ≤ capacity) }
-    ensures bucket { OnSome result (Within bucket.old.region.lo bucket.old.region.hi row.now.key.numbers → IsBucket K capacity bucket.new) }
+    ensures bucket { OnSome result (
+        Within bucket.old.region.lo bucket.old.region.hi row.now.key.numbers
+        → IsBucket capacity (bucket_of bucket.new)) }
     ensures number { OnSome result (bucket.new.number ≡ bucket.old.number) }
     ensures region { OnSome result (bucket.new.region ≡ bucket.old.region) }
 {
     if !has_place(bucket, &row.key, capacity) {
         return None;
     }
-    Some(bucket.with(row))
+    Some(bucket.insert(row))
 }
 
 impl<D: Disk> Lone<D> {
     /// Writes the page of an empty bucket of the whole region on page 0.
     pub fn begin<const K: usize>(disk: D, capacity: u16) -> Result<Lone<D>, OpenFault<D>>
-        requires few { K ≤ 4 }
+        requires few { K ≤ MOST_ATTRIBUTES }
         requires some { 1 ≤ K }
-        requires lawful { capacity ≤ 48 }
-        requires page { 4096 ≤ D.extent disk }
-        ensures stands { IsTrue (D.honest disk) → IfOk result (λ l. StandsFor K capacity (D.seen l.disk) []) }
+        requires lawful { capacity ≤ MOST_RECORDS }
+        requires page { PAGE_BYTES ≤ D.extent disk }
+        ensures stands { IsTrue (D.honest disk)
+            → IfOk result (λ l. StandsFor K capacity (D.seen l.disk) []) }
         ensures new { IfOk result (λ l. (l.front ≡ 0) × (l.capacity ≡ capacity)) }
-        ensures honest { IfOk result (λ l. D.honest l.disk ≡ D.honest disk) }
-        ensures failed { IfErr result (λ e. (e.refusal ≡ WriteFault) × Rose (D.write_count disk) (D.write_count e.disk)) }
+        ensures changes { MatchResult result (λ l. Changes D.Disk (Agrees 0 PAGE_BYTES) disk l.disk)
+            (λ e. Changes D.Disk (Agrees 0 PAGE_BYTES) disk e.disk) }
+        ensures failed { IfErr result (λ e.
+            (e.refusal ≡ WriteFault) × Rose (D.write_count disk) (D.write_count e.disk)) }
     {
         let mut disk = disk;
         let bucket = Bucket::<K> {
@@ -100,7 +115,7 @@ impl<D: Disk> Lone<D> {
             region: Region::whole(),
             rows: ArrayVec::new(),
         };
-        let mut page = [0; 4096];
+        let mut page = [0; PAGE_BYTES];
         encode(&bucket, capacity, &mut page);
         match disk.write(0, &page) {
             Ok(()) => Ok(Lone {
@@ -122,30 +137,22 @@ impl<D: Disk> Lone<D> {
         key: &Key<K>,
         steps: &mut Steps<L>,
     ) -> Result<Bucket<K>, Refusal>
-        requires { K ≤ 4 }
+        requires { K ≤ MOST_ATTRIBUTES }
         ensures ticks { steps.new ≡ steps.old + 1 }
-        ensures lawful { IfOk result (λ b. IsBucket K self.old.capacity b) }
         ensures key { OnOk result (IsKey K key.now.numbers) }
-        ensures expected { IfOk result (λ b. IsExpected K self.old.capacity self.new.page key.now.numbers b) }
-        ensures damaged { IsErrOf result (Damaged 0) → IsDamaged K self.old.capacity self.new.page key.now.numbers }
-        ensures found { IsTrue (D.honest self.old.disk)
-            → IfOk result (λ b. HasBucket K self.old.capacity (D.seen self.old.disk) b × Within b.region.lo b.region.hi key.now.numbers) }
-        ensures only { IsTrue (D.honest self.old.disk) → (b : Bucket K) → HasBucket K self.old.capacity (D.seen self.old.disk) b
-            → IfOk result (λ r. r ≡ b) }
-        ensures bytes { IsTrue (D.honest self.old.disk) → (IsErrOf result ReadFault → ⊥) → self.new.page ≡ page_of 0 (D.seen self.old.disk) }
-        ensures undamaged { IsTrue (D.honest self.old.disk) → IsErrOf result (Damaged 0) → (t : Table)
-            → StandsFor K self.old.capacity (D.seen self.old.disk) t → ⊥ }
-        ensures read_fault { IsErrOf result ReadFault → Rose (D.read_count self.old.disk) (D.read_count self.new.disk) }
-        ensures no_other { IfErr result (λ e. (e ≡ ReadFault) ⊎ (e ≡ Damaged 0)) }
-        ensures seen { IsTrue (D.honest self.old.disk) → D.seen self.new.disk ≡ D.seen self.old.disk }
-        ensures honest { D.honest self.new.disk ≡ D.honest self.old.disk }
-        ensures counts { (D.read_count self.old.disk ≤ D.read_count self.new.disk) × (D.write_count self.old.disk ≤ D.write_count self.new.disk) }
+        ensures expected { IfOk result
+            (IsExpected K self.old.capacity self.new.page key.now.numbers) }
+        ensures table { (t : Table) (s : TellsTable D.Disk K self.old.capacity self.old.disk t)
+            → MatchResult result (λ b. b ≡ s.stands.bucket) (λ e. e ≡ ReadFault) }
+        ensures bytes { IsTrue (D.honest self.old.disk) → (IsErrOf result ReadFault → ⊥)
+            → self.new.page ≡ page_of 0 (D.seen self.old.disk) }
+        ensures reads { OnlyReads D.Disk self.old.disk self.new.disk }
+        ensures causes { HasCauses D.Disk
+            (RefusesGet K self.old.capacity self.new.page key.now.numbers)
+            self.old.disk self.new.disk result }
         ensures same { (self.new.front ≡ self.old.front) × (self.new.capacity ≡ self.old.capacity) }
     {
-        match self.disk.read(0, &mut self.page, steps) {
-            Ok(()) => {}
-            Err(DiskFailed) => return Err(Refusal::ReadFault),
-        }
+        read_page(&mut self.disk, 0, &mut self.page, steps)?;
         let Some(bucket) = decode::<K>(&self.page, self.capacity) else {
             return Err(Refusal::Damaged { page: 0 });
         };
@@ -160,20 +167,18 @@ impl<D: Disk> Lone<D> {
 
     /// Writes the page of a bucket on page 0.
     fn rewrite<const K: usize>(&mut self, bucket: &Bucket<K>) -> Result<(), DiskFailed>
-        requires few { K ≤ 4 }
+        requires few { K ≤ MOST_ATTRIBUTES }
         requires fits { length bucket.now.rows.items ≤ self.old.capacity }
-        ensures page { self.new.page ≡ spelling K bucket.now }
-        ensures written { IsTrue (D.honest self.old.disk) → OnOk result (page_of 0 (D.seen self.new.disk) ≡ spelling K bucket.now) }
-        ensures cause { HasCause (D.write_count self.old.disk) (D.write_count self.new.disk) result }
-        ensures other { D.read_count self.old.disk ≤ D.read_count self.new.disk }
-        ensures honest { D.honest self.new.disk ≡ D.honest self.old.disk }
+        ensures page { self.new.page ≡ bucket_spelling (bucket_of bucket.now) }
+        ensures written { IsTrue (D.honest self.old.disk)
+            → OnOk result (page_of 0 (D.seen self.new.disk) ≡ bucket_spelling (bucket_of bucket.now)) }
+        ensures changes { Changes D.Disk (Agrees 0 PAGE_BYTES) self.old.disk self.new.disk }
+        ensures cause { HasCause
+            (D.write_count self.old.disk) (D.write_count self.new.disk) result }
         ensures same { (self.new.front ≡ self.old.front) × (self.new.capacity ≡ self.old.capacity) }
     {
         encode(bucket, self.capacity, &mut self.page);
-        match self.disk.write(0, &self.page) {
-            Ok(()) => Ok(()),
-            Err(DiskFailed) => Err(DiskFailed),
-        }
+        self.disk.write(0, &self.page)
     }
 
     /// The data at a key, read in one step.
@@ -182,30 +187,26 @@ impl<D: Disk> Lone<D> {
         key: &Key<K>,
         steps: &mut Steps<L>,
     ) -> Result<Answer<Option<Data>>, Refusal>
-        requires { K ≤ 4 }
+        requires { K ≤ MOST_ATTRIBUTES }
         ensures at { IfOk result (λ a. a.at ≡ self.old.front) }
-        ensures value { IsTrue (D.honest self.old.disk) → (t : Table) → StandsFor K self.old.capacity (D.seen self.old.disk) t
-            → IfOk result (λ a. a.value ≡ get t key.now.numbers) }
-        ensures answers { IfOk result (λ a. Answers K self.old.capacity self.new.page key.now.numbers a.value) }
-        ensures damaged { IsErrOf result (Damaged 0) → IsDamaged K self.old.capacity self.new.page key.now.numbers }
-        ensures undamaged { IsTrue (D.honest self.old.disk) → IsErrOf result (Damaged 0) → (t : Table)
-            → StandsFor K self.old.capacity (D.seen self.old.disk) t → ⊥ }
-        ensures bytes { IsTrue (D.honest self.old.disk) → (IsErrOf result ReadFault → ⊥) → self.new.page ≡ page_of 0 (D.seen self.old.disk) }
-        ensures read_fault { IsErrOf result ReadFault → Rose (D.read_count self.old.disk) (D.read_count self.new.disk) }
-        ensures no_other { IfErr result (λ e. (e ≡ ReadFault) ⊎ (e ≡ Damaged 0)) }
+        ensures value { (t : Table) → TellsTable D.Disk K self.old.capacity self.old.disk t
+            → MatchResult result (λ a. a.value ≡ get t key.now.numbers) (λ e. e ≡ ReadFault) }
+        ensures answers { IfOk result (λ a.
+            Answers K self.old.capacity self.new.page key.now.numbers a.value) }
+        ensures bytes { IsTrue (D.honest self.old.disk) → (IsErrOf result ReadFault → ⊥)
+            → self.new.page ≡ page_of 0 (D.seen self.old.disk) }
+        ensures reads { OnlyReads D.Disk self.old.disk self.new.disk }
+        ensures causes { HasCauses D.Disk
+            (RefusesGet K self.old.capacity self.new.page key.now.numbers)
+            self.old.disk self.new.disk result }
         ensures one_read { steps.new ≡ steps.old + 1 }
-        ensures seen { IsTrue (D.honest self.old.disk) → D.seen self.new.disk ≡ D.seen self.old.disk }
-        ensures honest { D.honest self.new.disk ≡ D.honest self.old.disk }
-        ensures counts { (D.read_count self.old.disk ≤ D.read_count self.new.disk) × (D.write_count self.old.disk ≤ D.write_count self.new.disk) }
         ensures same { (self.new.front ≡ self.old.front) × (self.new.capacity ≡ self.old.capacity) }
     {
-        match self.bucket_of(key, steps) {
-            Ok(bucket) => Ok(Answer {
-                at: self.front,
-                value: data_at(&bucket, key),
-            }),
-            Err(refusal) => Err(refusal),
-        }
+        let bucket = self.bucket_of(key, steps)?;
+        Ok(Answer {
+            at: self.front,
+            value: data_at(&bucket, key),
+        })
     }
 
     /// Puts a record, read and rewritten in place. A key that the bucket does not take is refused, since nothing divides
@@ -216,45 +217,41 @@ impl<D: Disk> Lone<D> {
         row: &Record<K>,
         steps: &mut Steps<L>,
     ) -> Result<Answer<Option<Data>>, Refusal>
-        requires { K ≤ 4 }
-        ensures at { IfOk result (λ a. a.at ≡ self.old.front + 1) }
-        ensures value { IsTrue (D.honest self.old.disk) → (t : Table) → StandsFor K self.old.capacity (D.seen self.old.disk) t
-            → IfOk result (λ a. a.value ≡ get t row.now.key.numbers) }
-        ensures taken { IsTrue (D.honest self.old.disk) → (t : Table) → StandsFor K self.old.capacity (D.seen self.old.disk) t
-            → OnOk result (takes self.old.capacity t row.now.key.numbers ≡ true) }
-        ensures stands { IsTrue (D.honest self.old.disk) → (t : Table) → StandsFor K self.old.capacity (D.seen self.old.disk) t
-            → OnOk result (StandsFor K self.old.capacity (D.seen self.new.disk) (with_data t row.now.key.numbers row.now.value)) }
-        ensures found { IsTrue (D.honest self.old.disk)
-            → IfOk result (λ a. Answers K self.old.capacity (page_of 0 (D.seen self.old.disk)) row.now.key.numbers a.value) }
-        ensures no_cut { IsTrue (D.honest self.old.disk) → (t : Table) → StandsFor K self.old.capacity (D.seen self.old.disk) t
-            → IsErrOf result (NoCut 1 0) → takes self.old.capacity t row.now.key.numbers ≡ false }
-        ensures holds { IfOk result (λ a. HoldsPut K self.old.capacity self.new.page row.now.key.numbers row.now.value a.value) }
-        ensures full { IsErrOf result (NoCut 1 0) → IsFull K self.old.capacity self.new.page row.now.key.numbers }
-        ensures damaged { IsErrOf result (Damaged 0) → IsDamaged K self.old.capacity self.new.page row.now.key.numbers }
-        ensures undamaged { IsTrue (D.honest self.old.disk) → IsErrOf result (Damaged 0) → (t : Table)
-            → StandsFor K self.old.capacity (D.seen self.old.disk) t → ⊥ }
-        ensures bytes { IsTrue (D.honest self.old.disk)
-            → IfErr result (λ e. (e ≡ NoCut 1 0) ⊎ (e ≡ Damaged 0) → self.new.page ≡ page_of 0 (D.seen self.old.disk)) }
-        ensures worn { (n : ℕ) → IsErrOf result (Worn n) → (n ≡ self.old.front) × (worn_at ≤ self.old.front) }
-        ensures unworn { worn_at ≤ self.old.front → IsErrOf result (Worn self.old.front) }
-        ensures read_fault { IsErrOf result ReadFault → Rose (D.read_count self.old.disk) (D.read_count self.new.disk) }
-        ensures write_fault { IsErrOf result WriteFault → Rose (D.write_count self.old.disk) (D.write_count self.new.disk) }
-        ensures no_other { IfErr result (CanRefuse self.old.front) }
-        ensures one_read { OnOk result (steps.new ≡ steps.old + 1) }
-        ensures kept { IsTrue (D.honest self.old.disk) → IfErr result (λ e. e ≢ WriteFault → D.seen self.new.disk ≡ D.seen self.old.disk) }
-        ensures honest { D.honest self.new.disk ≡ D.honest self.old.disk }
-        ensures counts { (D.read_count self.old.disk ≤ D.read_count self.new.disk) × (D.write_count self.old.disk ≤ D.write_count self.new.disk) }
-        ensures same { OnErr result (self.new.front ≡ self.old.front) }
-        ensures next { OnOk result (self.new.front ≡ self.old.front + 1) }
+        requires { K ≤ MOST_ATTRIBUTES }
+        // An answered put has the next place, which is then the front; a refused one leaves it.
+        ensures counted { MatchResult result
+            (λ a. (a.at ≡ self.old.front + 1) × (self.new.front ≡ self.old.front + 1))
+            (λ e. self.new.front ≡ self.old.front) }
         ensures capacity { self.new.capacity ≡ self.old.capacity }
+
+        // Over a disk that stands for a table it is answered and refused by that table.
+        ensures table { (t : Table) → TellsTable D.Disk K self.old.capacity self.old.disk t
+            → MatchResult result
+            (PutsInto K self.old.capacity t row.now (D.seen self.new.disk))
+            (RefusesPutInto self.old.capacity t row.now.key.numbers self.old.front) }
+
+        // Over any disk the page says why, as it was read, and as it was written.
+        ensures holds { IfOk result (λ a.
+            HoldsPut K self.old.capacity self.new.page row.now.key.numbers row.now.value a.value) }
+        ensures causes { HasCauses D.Disk
+            (RefusesPut K self.old.capacity self.new.page row.now.key.numbers self.old.front)
+            self.old.disk self.new.disk result }
+        ensures unworn { worn_at ≤ self.old.front → IsErrOf result (Worn self.old.front) }
+        ensures bytes { IsTrue (D.honest self.old.disk) → MatchResult result
+            (λ a. Answers K self.old.capacity (page_of 0 (D.seen self.old.disk))
+            row.now.key.numbers a.value)
+            (λ e. (e ≡ NoCut 1 0) ⊎ (e ≡ Damaged 0)
+            → self.new.page ≡ page_of 0 (D.seen self.old.disk)) }
+
+        ensures one_read { OnOk result (steps.new ≡ steps.old + 1) }
+        ensures changes { Changes D.Disk (Agrees 0 PAGE_BYTES) self.old.disk self.new.disk }
+        ensures kept { IfErr result (λ e. e ≢ WriteFault
+            → OnlyReads D.Disk self.old.disk self.new.disk) }
     {
         if self.front >= WORN {
             return Err(Refusal::Worn { count: self.front });
         }
-        let mut bucket = match self.bucket_of(&row.key, steps) {
-            Ok(bucket) => bucket,
-            Err(refusal) => return Err(refusal),
-        };
+        let mut bucket = self.bucket_of(&row.key, steps)?;
         let Some(value) = put_within(&mut bucket, row, self.capacity) else {
             return Err(Refusal::NoCut {
                 cells: 1,
@@ -274,7 +271,8 @@ impl<D: Disk> Lone<D> {
 
     /// Whether a call of the disk has counted a failure since the disk was handed out.
     pub fn has_failed(&self) -> bool
-        ensures { IsTrue result ↔ ((D.read_count self.now.disk ≢ 0) ⊎ (D.write_count self.now.disk ≢ 0)) }
+        ensures { IsTrue result
+            ↔ ((D.read_count self.now.disk ≢ 0) ⊎ (D.write_count self.now.disk ≢ 0)) }
     {
         self.disk.read_faults() != 0 || self.disk.write_faults() != 0
     }

@@ -14,7 +14,6 @@ mod tests;
 mod work;
 
 use disk_file::{FileBay, StreamSink, StreamSource};
-use disk_trait::Sink;
 use ending::Ending;
 use grid_types::Words;
 use run::run_grid;
@@ -22,7 +21,7 @@ use std::env;
 use std::io::ErrorKind;
 use std::process::ExitCode;
 use std::rt::Env;
-use telling::tell;
+use telling::finish;
 
 /// The words of the command line behind the program's name. A word that is no text is none of the written forms.
 fn words_of<R: Env + AllocGlobal>(rt: &R) -> Result<Words, Ending> {
@@ -41,12 +40,6 @@ fn words_of<R: Env + AllocGlobal>(rt: &R) -> Result<Words, Ending> {
     Ok(words)
 }
 
-/// Ends before there are words to run.
-fn refuse<E: Sink>(err: &mut E, ending: Ending) -> u8 {
-    let _ = tell(err, ending);
-    ending.status()
-}
-
 fn main(rt: HostRuntime) -> ExitCode {
     let mut bay = FileBay::new(rt);
     let mut input = StreamSource::new(rt.stdin());
@@ -54,7 +47,7 @@ fn main(rt: HostRuntime) -> ExitCode {
     let mut err = StreamSink::new(rt.stderr());
     let status = match words_of(&rt) {
         Ok(words) => run_grid(&rt, &words, &mut bay, &mut input, &mut out, &mut err),
-        Err(ending) => refuse(&mut err, ending),
+        Err(ending) => finish(&mut err, ending),
     };
     ExitCode::from(status)
 }

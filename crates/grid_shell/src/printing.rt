@@ -1,10 +1,12 @@
 //! What a run prints, through one buffer of fixed size.
 ghost use Rattle.std.specs.Prelude.{◌≡◌, ◌≤◌, ◌+◌, ◌++◌, IsTrue, OnOk, flat_map};
+ghost use Rattle.grid_types.specs.declared.sizes.TheConstants.{MOST_ATTRIBUTES};
 ghost use Rattle.arrayvec.specs.ArrayVec.{array_vec_len};
 ghost use Rattle.grid_model.specs.Text.{text, reply_lines, ended};
 ghost use Rattle.disk_trait.specs.Causes.{HasCause};
-ghost use Rattle.disk_trait.specs.Streams.{Adds};
-ghost use Rattle.grid_shell.specs.Runs.{group_of};
+ghost use Rattle.disk_trait.specs.Streams.{AddsFront};
+ghost use Rattle.grid_shell.specs.Printing.{Passes};
+ghost use Rattle.grid_shell.specs.Replies.{group_of};
 
 use disk_trait::{Sink, SinkFailed, put_all};
 use grid_script::{LINE, Text, add_client, add_first, add_front, add_row, rows_of};
@@ -12,22 +14,15 @@ use grid_types::Reply;
 
 /// Gives the lines to the sink where there is no room for one more.
 fn make_room<O: Sink>(out: &mut O, lines: &mut Text) -> Result<(), SinkFailed>
-    ensures kept { IsTrue (O.tells out.old) → OnOk result (O.received out.new ++ lines.new.items ≡ O.received out.old ++ lines.old.items) }
-    ensures front { IsTrue (O.tells out.old) → Adds (O.received out.old) (O.received out.new) lines.old.items }
+    ensures passes { Passes O.Sink lines.old.items lines.new.items out.old out.new result }
     ensures room { OnOk result (array_vec_len lines.new + LINE ≤ 4096) }
-    ensures tells { O.tells out.new ≡ O.tells out.old }
-    ensures cause { HasCause (O.fault_count out.old) (O.fault_count out.new) result }
 {
     if lines.len() <= 4096 - LINE {
         return Ok(());
     }
-    match put_all(out, lines.as_slice()) {
-        Ok(()) => {
-            lines.clear();
-            Ok(())
-        }
-        Err(SinkFailed) => Err(SinkFailed),
-    }
+    put_all(out, lines.as_slice())?;
+    lines.clear();
+    Ok(())
 }
 
 /// Adds the lines of a reply, behind those that are there.
@@ -36,23 +31,15 @@ fn print_reply<const K: usize, O: Sink>(
     reply: &Reply<K>,
     lines: &mut Text,
 ) -> Result<(), SinkFailed>
-    requires { K ≤ 4 }
-    ensures kept { IsTrue (O.tells out.old)
-        → OnOk result (O.received out.new ++ lines.new.items ≡ O.received out.old ++ (lines.old.items ++ flat_map ended (reply_lines reply.now))) }
-    ensures front { IsTrue (O.tells out.old)
-        → Adds (O.received out.old) (O.received out.new) (lines.old.items ++ flat_map ended (reply_lines reply.now)) }
-    ensures tells { O.tells out.new ≡ O.tells out.old }
-    ensures cause { HasCause (O.fault_count out.old) (O.fault_count out.new) result }
+    requires { K ≤ MOST_ATTRIBUTES }
+    ensures { Passes O.Sink (lines.old.items ++ flat_map ended (reply_lines reply.now))
+        lines.new.items out.old out.new result }
 {
-    match make_room(out, lines) {
-        Ok(()) => add_first(reply, lines),
-        Err(SinkFailed) => return Err(SinkFailed),
-    }
+    make_room(out, lines)?;
+    add_first(reply, lines);
     for row in rows_of(reply) {
-        match make_room(out, lines) {
-            Ok(()) => add_row(row, lines),
-            Err(SinkFailed) => return Err(SinkFailed),
-        }
+        make_room(out, lines)?;
+        add_row(row, lines);
     }
     Ok(())
 }
@@ -63,9 +50,11 @@ pub fn print_all<const K: usize, O: Sink>(
     replies: &[Reply<K>],
     front: u64,
 ) -> Result<(), SinkFailed>
-    requires { K ≤ 4 }
-    ensures printed { IsTrue (O.tells out.old) → OnOk result (O.received out.new ≡ O.received out.old ++ text (group_of replies.now) front) }
-    ensures front { IsTrue (O.tells out.old) → Adds (O.received out.old) (O.received out.new) (text (group_of replies.now) front) }
+    requires { K ≤ MOST_ATTRIBUTES }
+    ensures printed { IsTrue (O.tells out.old) → OnOk result (O.received out.new
+        ≡ O.received out.old ++ text (group_of replies.now) front) }
+    ensures front { IsTrue (O.tells out.old) → AddsFront (O.received out.old) (O.received out.new)
+        (text (group_of replies.now) front) }
     ensures cause { HasCause (O.fault_count out.old) (O.fault_count out.new) result }
 {
     let mut lines = Text::new();
@@ -73,14 +62,9 @@ pub fn print_all<const K: usize, O: Sink>(
         add_client(1, &mut lines);
     }
     for reply in replies {
-        match print_reply(out, reply, &mut lines) {
-            Ok(()) => {}
-            Err(SinkFailed) => return Err(SinkFailed),
-        }
+        print_reply(out, reply, &mut lines)?;
     }
-    match make_room(out, &mut lines) {
-        Ok(()) => add_front(front, &mut lines),
-        Err(SinkFailed) => return Err(SinkFailed),
-    }
+    make_room(out, &mut lines)?;
+    add_front(front, &mut lines);
     put_all(out, lines.as_slice())
 }

@@ -1,13 +1,11 @@
 //! The lines of a script, answered one after the other.
-ghost use Rattle.std.specs.Prelude.{◌≡◌, ◌≢◌, ◌≤◌, ◌<◌, ◌+◌, ◌⊎◌, [], List, ℕ, IsTrue, IfOk, IfErr, OnOk, length, vec_len, vec_capacity};
-ghost use Rattle.grid_model.specs.Lone.{State, lone as answer, answers, afterwards};
-ghost use Rattle.grid_model.specs.Transcripts.{requests};
+ghost use Rattle.std.specs.Prelude.{◌≡◌, ◌≢◌, ◌≤◌, [], IsTrue, IfOk, IfErr, length, vec_len, vec_capacity};
+ghost use Rattle.grid_types.specs.declared.sizes.TheConstants.{MOST_ATTRIBUTES};
 ghost use Rattle.grid_types.specs.declared.refusal.Refusal.TheVariants.{ReadFault, WriteFault};
 ghost use Rattle.grid_types.specs.declared.request.Request.TheVariants as ask;
 ghost use Rattle.grid_types.specs.declared.request.Reply.TheVariants as reply;
 ghost use Rattle.grid_script.specs.Taken.{is_taken, AreTaken};
-ghost use Rattle.grid_shell.specs.Standing.{undivided, worn_at, StandsAt, IsDiskFault};
-ghost use Rattle.grid_shell.specs.Runs.{IsReplyTo, Judges, AreRepliesTo};
+ghost use Rattle.grid_shell.specs.Replies.{IsDiskFault, RepliesTo, RepliesToAll};
 
 use crate::lone::Lone;
 use disk_trait::{Disk, Steps};
@@ -18,7 +16,7 @@ use std::sync::ledger::Ledger;
 fn refused<const K: usize>(refusal: Refusal) -> Result<Reply<K>, Refusal>
     ensures reply { IfOk result (λ r. r ≡ reply.Refused refusal) }
     ensures answered { IfOk result (λ r. (refusal ≢ ReadFault) × (refusal ≢ WriteFault)) }
-    ensures fault { IfErr result (λ e. (e ≡ refusal) × ((e ≡ ReadFault) ⊎ (e ≡ WriteFault))) }
+    ensures fault { IfErr result (λ e. (e ≡ refusal) × IsDiskFault e) }
 {
     match refusal {
         Refusal::ReadFault => Err(Refusal::ReadFault),
@@ -33,21 +31,8 @@ fn reply_to_get<const K: usize, D: Disk, L: Ledger>(
     key: &Key<K>,
     steps: &mut Steps<L>,
 ) -> Result<Reply<K>, Refusal>
-    requires { K ≤ 4 }
-    ensures told { IsTrue (D.honest lone.old.disk) → (s : State K)
-        → StandsAt K lone.old.capacity (D.seen lone.old.disk) lone.old.front s → lone.old.front < worn_at
-        → IfOk result (λ r. r ≡ (answer (undivided K lone.old.capacity) s (ask.Get key.now)).reply) }
-    ensures stands { IsTrue (D.honest lone.old.disk) → (s : State K)
-        → StandsAt K lone.old.capacity (D.seen lone.old.disk) lone.old.front s → lone.old.front < worn_at
-        → OnOk result (StandsAt K lone.old.capacity (D.seen lone.new.disk) lone.new.front (answer (undivided K lone.old.capacity) s (ask.Get key.now)).state) }
-    ensures kind { IfOk result (IsReplyTo (ask.Get key.now)) }
-    ensures judged { IfOk result (Judges lone.old.capacity lone.new.page (ask.Get key.now)) }
-    ensures front { lone.new.front ≤ lone.old.front + 1 }
-    ensures fault { IfErr result (λ e. IsDiskFault e (D.read_count lone.old.disk) (D.read_count lone.new.disk) (D.write_count lone.old.disk) (D.write_count lone.new.disk)) }
-    ensures reads { D.read_count lone.old.disk ≤ D.read_count lone.new.disk }
-    ensures writes { D.write_count lone.old.disk ≤ D.write_count lone.new.disk }
-    ensures honest { D.honest lone.new.disk ≡ D.honest lone.old.disk }
-    ensures capacity { lone.new.capacity ≡ lone.old.capacity }
+    requires { K ≤ MOST_ATTRIBUTES }
+    ensures { RepliesTo D.Disk (ask.Get key.now) lone.old lone.new result }
 {
     match lone.get(key, steps) {
         Ok(answer) => Ok(Reply::Got(answer)),
@@ -61,21 +46,8 @@ fn reply_to_put<const K: usize, D: Disk, L: Ledger>(
     row: &Record<K>,
     steps: &mut Steps<L>,
 ) -> Result<Reply<K>, Refusal>
-    requires { K ≤ 4 }
-    ensures told { IsTrue (D.honest lone.old.disk) → (s : State K)
-        → StandsAt K lone.old.capacity (D.seen lone.old.disk) lone.old.front s → lone.old.front < worn_at
-        → IfOk result (λ r. r ≡ (answer (undivided K lone.old.capacity) s (ask.Put row.now)).reply) }
-    ensures stands { IsTrue (D.honest lone.old.disk) → (s : State K)
-        → StandsAt K lone.old.capacity (D.seen lone.old.disk) lone.old.front s → lone.old.front < worn_at
-        → OnOk result (StandsAt K lone.old.capacity (D.seen lone.new.disk) lone.new.front (answer (undivided K lone.old.capacity) s (ask.Put row.now)).state) }
-    ensures kind { IfOk result (IsReplyTo (ask.Put row.now)) }
-    ensures judged { IfOk result (Judges lone.old.capacity lone.new.page (ask.Put row.now)) }
-    ensures front { lone.new.front ≤ lone.old.front + 1 }
-    ensures fault { IfErr result (λ e. IsDiskFault e (D.read_count lone.old.disk) (D.read_count lone.new.disk) (D.write_count lone.old.disk) (D.write_count lone.new.disk)) }
-    ensures reads { D.read_count lone.old.disk ≤ D.read_count lone.new.disk }
-    ensures writes { D.write_count lone.old.disk ≤ D.write_count lone.new.disk }
-    ensures honest { D.honest lone.new.disk ≡ D.honest lone.old.disk }
-    ensures capacity { lone.new.capacity ≡ lone.old.capacity }
+    requires { K ≤ MOST_ATTRIBUTES }
+    ensures { RepliesTo D.Disk (ask.Put row.now) lone.old lone.new result }
 {
     match lone.put(row, steps) {
         Ok(answer) => Ok(Reply::Put(answer)),
@@ -89,22 +61,9 @@ fn reply_to<const K: usize, D: Disk, L: Ledger>(
     line: &Line<K>,
     steps: &mut Steps<L>,
 ) -> Result<Reply<K>, Refusal>
-    requires few { K ≤ 4 }
+    requires few { K ≤ MOST_ATTRIBUTES }
     requires taken { IsTrue (is_taken line.now) }
-    ensures told { IsTrue (D.honest lone.old.disk) → (s : State K)
-        → StandsAt K lone.old.capacity (D.seen lone.old.disk) lone.old.front s → lone.old.front < worn_at
-        → IfOk result (λ r. r ≡ (answer (undivided K lone.old.capacity) s line.now.request).reply) }
-    ensures stands { IsTrue (D.honest lone.old.disk) → (s : State K)
-        → StandsAt K lone.old.capacity (D.seen lone.old.disk) lone.old.front s → lone.old.front < worn_at
-        → OnOk result (StandsAt K lone.old.capacity (D.seen lone.new.disk) lone.new.front (answer (undivided K lone.old.capacity) s line.now.request).state) }
-    ensures kind { IfOk result (IsReplyTo line.now.request) }
-    ensures judged { IfOk result (Judges lone.old.capacity lone.new.page line.now.request) }
-    ensures front { lone.new.front ≤ lone.old.front + 1 }
-    ensures fault { IfErr result (λ e. IsDiskFault e (D.read_count lone.old.disk) (D.read_count lone.new.disk) (D.write_count lone.old.disk) (D.write_count lone.new.disk)) }
-    ensures reads { D.read_count lone.old.disk ≤ D.read_count lone.new.disk }
-    ensures writes { D.write_count lone.old.disk ≤ D.write_count lone.new.disk }
-    ensures honest { D.honest lone.new.disk ≡ D.honest lone.old.disk }
-    ensures capacity { lone.new.capacity ≡ lone.old.capacity }
+    ensures { RepliesTo D.Disk line.now.request lone.old lone.new result }
 {
     match &line.request {
         Request::Get(key) => reply_to_get(lone, key, steps),
@@ -124,22 +83,12 @@ pub fn answer_all<const K: usize, D: Disk, L: Ledger>(
     replies: &mut Vec<Reply<K>>,
     steps: &mut Steps<L>,
 ) -> Result<(), Refusal>
-    requires few { K ≤ 4 }
+    requires few { K ≤ MOST_ATTRIBUTES }
     requires taken { AreTaken asked.now }
     requires empty { replies.old.items ≡ [] }
     requires none { vec_len replies.old ≡ 0 }
     requires room { length asked.now ≤ vec_capacity replies.old }
-    ensures told { IsTrue (D.honest lone.old.disk) → (s : State K)
-        → StandsAt K lone.old.capacity (D.seen lone.old.disk) lone.old.front s → lone.old.front + length asked.now ≤ worn_at
-        → OnOk result (replies.new.items ≡ answers (undivided K lone.old.capacity) s (requests asked.now)) }
-    ensures stands { IsTrue (D.honest lone.old.disk) → (s : State K)
-        → StandsAt K lone.old.capacity (D.seen lone.old.disk) lone.old.front s → lone.old.front + length asked.now ≤ worn_at
-        → OnOk result (StandsAt K lone.old.capacity (D.seen lone.new.disk) lone.new.front (afterwards (undivided K lone.old.capacity) s (requests asked.now))) }
-    ensures kinds { OnOk result (AreRepliesTo asked.now replies.new.items) }
-    ensures fault { IfErr result (λ e. IsDiskFault e (D.read_count lone.old.disk) (D.read_count lone.new.disk) (D.write_count lone.old.disk) (D.write_count lone.new.disk)) }
-    ensures reads { D.read_count lone.old.disk ≤ D.read_count lone.new.disk }
-    ensures writes { D.write_count lone.old.disk ≤ D.write_count lone.new.disk }
-    ensures honest { D.honest lone.new.disk ≡ D.honest lone.old.disk }
+    ensures { RepliesToAll D.Disk asked.now lone.old lone.new replies.new.items result }
 {
     for line in asked {
         let reply = match reply_to(lone, line, steps) {

@@ -1,7 +1,8 @@
 //! What the error sink is told.
-ghost use Rattle.std.specs.Prelude.{◌≡◌, ◌≤◌, ◌++◌, IsTrue, OnOk};
-ghost use Rattle.disk_trait.specs.Causes.{HasCause};
-ghost use Rattle.grid_shell.specs.Endings.{error_text};
+ghost use Rattle.std.specs.Prelude.{◌≡◌, ◌≤◌, ◌⊎◌, ◌++◌, IsTrue, OnOk};
+ghost use Rattle.disk_trait.specs.Causes.{HasCause, Rose};
+ghost use Rattle.grid_shell.specs.Statuses.{error_text};
+ghost use Rattle.grid_shell.specs.Endings.{status_of, line_of};
 
 use crate::ending::Ending;
 use disk_trait::{Sink, SinkFailed, put_all};
@@ -9,23 +10,20 @@ use itoa::Buffer;
 
 /// Tells the line at which a script has its fault.
 fn tell_line<E: Sink>(err: &mut E, line: u64) -> Result<(), SinkFailed>
-    ensures told { IsTrue (E.tells err.old) → OnOk result (E.received err.new ≡ E.received err.old ++ error_text (Ending.BadScript line)) }
+    ensures told { IsTrue (E.tells err.old)
+        → OnOk result (E.received err.new ≡ E.received err.old ++ error_text 3 line) }
     ensures cause { HasCause (E.fault_count err.old) (E.fault_count err.new) result }
 {
     let mut buffer = Buffer::new();
-    match put_all(err, b"grid: script line ") {
-        Ok(()) => {}
-        Err(SinkFailed) => return Err(SinkFailed),
-    }
-    match put_all(err, buffer.format(line).as_bytes()) {
-        Ok(()) => put_all(err, b"\n"),
-        Err(SinkFailed) => Err(SinkFailed),
-    }
+    put_all(err, b"grid: script line ")?;
+    put_all(err, buffer.format(line).as_bytes())?;
+    put_all(err, b"\n")
 }
 
-/// Tells an end on the error sink. Most ends have nothing to tell.
+/// Tells an ending on the error sink. Most endings have nothing to tell.
 pub fn tell<E: Sink>(err: &mut E, ending: Ending) -> Result<(), SinkFailed>
-    ensures told { IsTrue (E.tells err.old) → OnOk result (E.received err.new ≡ E.received err.old ++ error_text ending) }
+    ensures told { IsTrue (E.tells err.old) → OnOk result (E.received err.new
+        ≡ E.received err.old ++ error_text (status_of ending) (line_of ending)) }
     ensures cause { HasCause (E.fault_count err.old) (E.fault_count err.new) result }
 {
     match ending {
@@ -36,5 +34,18 @@ pub fn tell<E: Sink>(err: &mut E, ending: Ending) -> Result<(), SinkFailed>
         Ending::Done => put_all(err, b""),
         Ending::Damaged => put_all(err, b""),
         Ending::Refused => put_all(err, b""),
+        Ending::Unsure => put_all(err, b""),
     }
+}
+
+/// Tells an ending, and answers its status. Where the error sink fails the status is the same.
+pub fn finish<E: Sink>(err: &mut E, ending: Ending) -> u8
+    ensures status { result ≡ status_of ending }
+    ensures told { IsTrue (E.tells err.old)
+        → Rose (E.fault_count err.old) (E.fault_count err.new)
+        ⊎ (E.received err.new
+        ≡ E.received err.old ++ error_text (status_of ending) (line_of ending)) }
+{
+    let _ = tell(err, ending);
+    ending.status()
 }

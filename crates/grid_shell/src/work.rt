@@ -1,14 +1,13 @@
 //! The work of a run over its disk: the script is read and judged, its lines are answered, and the replies printed.
-ghost use Rattle.std.specs.Prelude.{◌≡◌, ◌≢◌, ◌≤◌, ◌<◌, ◌+◌, ◌*◌, ◌⊎◌, ◌∷◌, [], List, ℕ, IsTrue, IfOk, IfErr, IsErrOf, length};
+ghost use Rattle.std.specs.Prelude.{◌≡◌, ◌≢◌, ◌≤◌, ◌<◌, ◌*◌, List, IsTrue, IfOk, IfErr, IsErrOf, length};
+ghost use Rattle.grid_types.specs.declared.sizes.TheConstants.{PAGE_BYTES};
 ghost use Rattle.grid_types.specs.declared.request.Line.{Line};
 ghost use Rattle.disk_trait.specs.Causes.{Rose};
-ghost use Rattle.disk_trait.specs.Streams.{Adds};
-ghost use Rattle.grid_script.specs.Taken.{AreTaken, IsScript, IsFault};
-ghost use Rattle.grid_shell.specs.Endings.{status_of, HasBegun, IsSilent, IsUnread};
-ghost use Rattle.grid_shell.specs.Standing.{begun, bucket_capacity, StandsAt};
-ghost use Rattle.grid_shell.specs.Serving.{Served, IsFresh, IsUntouched, held, received};
-ghost use Rattle.grid_shell.specs.Ran.{Ran, run_over};
-ghost use Rattle.grid_shell.specs.Runs.{printed, IsAnswered, IsPrinted, SomePrinted, HasFailed, OneRose, OneHigher, most_read, LostAtMost};
+ghost use Rattle.grid_script.specs.Taken.{AreTaken, IsScript};
+ghost use Rattle.grid_shell.specs.Statuses.{IsSilent};
+ghost use Rattle.grid_shell.specs.Endings.{status_of};
+ghost use Rattle.grid_shell.specs.Runs.{HasFailed, most_read, LostAtMost};
+ghost use Rattle.grid_shell.specs.Ran.{Served, NamesFault, IsNewStore, RunsDisk, run_of_lines};
 
 use crate::ending::Ending;
 use crate::input::{InputFault, read_all};
@@ -16,7 +15,7 @@ use crate::lone::{Lone, OpenFault};
 use crate::printing::print_all;
 use crate::session::answer_all;
 use disk_trait::{Disk, Sink, Source, Steps};
-use grid_script::{Script, read_taken};
+use grid_script::{Script, ScriptFault, read_taken};
 use grid_types::Line;
 use std::alloc::{AllocError, Global};
 use std::marker::Brand;
@@ -52,8 +51,11 @@ pub fn answer_lines<D: Disk, O: Sink, L: Ledger>(
     requires some { 0 < L.parts }
     requires short { length asked.now ≤ MOST }
     requires taken { AreTaken asked.now }
-    ensures { Served (IsFresh ATTRIBUTES (D.honest lone.old.disk) lone.old.capacity (D.seen lone.old.disk) lone.old.front) lone.old.capacity asked.now
-        (held D.Disk lone.new.disk) (received O.Sink out.old out.new) result }
+    ensures served { Served (IsNewStore D.Disk lone.old) ⊥ (λ ls. ls ≡ asked.now)
+        (run_of_lines D.Disk O.Sink lone.new.disk (out.old, out.new) (status_of result)) }
+    ensures script { status_of result ≢ 3 }
+    ensures failed { HasFailed (D.read_count lone.new.disk) (D.write_count lone.new.disk)
+        → IsSilent (status_of result) × (out.new ≡ out.old) }
 {
     let mut replies = match Vec::with_capacity(alloc, asked.len()) {
         Ok(replies) => replies,
@@ -75,53 +77,21 @@ pub fn answer_lines<D: Disk, O: Sink, L: Ledger>(
     }
 }
 
-/// Writes the first page, and answers the lines of a script over it.
-fn open_and_answer<D: Disk, O: Sink>(
-    alloc: Global,
-    disk: D,
-    script: &Script<ATTRIBUTES>,
-    out: &mut O,
-) -> Worked<D>
-    requires page { 4096 ≤ D.extent disk }
-    requires short { length script.now ≤ MOST }
-    requires taken { AreTaken script.now }
-    ensures { Served (IsTrue (D.honest disk)) bucket_capacity script.now (held D.Disk result.disk) (received O.Sink out.old out.new) result.ending }
-{
-    match Lone::begin::<ATTRIBUTES>(disk, CAPACITY) {
-        Ok(lone) => {
-            let mut lone = lone;
-            let ending = answer_lines::<D, O, Brand>(
-                alloc,
-                &mut lone,
-                script.lines(),
-                out,
-                Blank::new(1),
-            );
-            Worked {
-                disk: lone.into_disk(),
-                ending,
-            }
-        }
-        Err(OpenFault { disk, refusal: _ }) => Worked {
-            disk,
-            ending: Ending::Device,
-        },
-    }
-}
-
 /// Reads the script to its end and judges it. An input that counts a failure is a failed device, whatever it gave.
 #[tactic(auto, unfolding(grid_model::specs::Script::longest))]
 fn read_lines<S: Source>(alloc: Global, input: &mut S) -> Result<Script<ATTRIBUTES>, Ending>
-    ensures read { IsTrue (S.tells input.old) → IfOk result (λ s. IsScript (S.left input.old) s) }
+    ensures read { IsTrue (S.tells input.old) → IfOk result (IsScript (S.left input.old)) }
     ensures short { IfOk result (λ s. length s ≤ MOST) }
     ensures taken { IfOk result AreTaken }
-    ensures unread { IfErr result IsUnread }
-    ensures fault { IsTrue (S.tells input.old) → (n : ℕ) → IsErrOf result (Ending.BadScript n) → IsFault ATTRIBUTES (S.left input.old) n }
-    ensures device { IsErrOf result Ending.Device → Rose (S.fault_count input.old) (S.fault_count input.new) }
     ensures counted { IfOk result (λ s. S.fault_count input.new ≡ S.fault_count input.old) }
-    ensures quiet { (n : ℕ) → IsErrOf result (Ending.BadScript n) → S.fault_count input.new ≡ S.fault_count input.old }
-    ensures lost { IsTrue (S.tells input.old) → LostAtMost most_read (S.left input.old) (S.left input.new) }
-    ensures later { S.fault_count input.old ≤ S.fault_count input.new }
+    ensures unread { IfErr result (λ e. IsSilent (status_of e)) }
+    ensures fault { IsTrue (S.tells input.old) → IfErr result (NamesFault (S.left input.old)) }
+    ensures device { IfErr result (λ e. status_of e ≡ 5
+        → Rose (S.fault_count input.old) (S.fault_count input.new)) }
+    ensures steady { IfErr result (λ e. status_of e ≡ 3
+        → S.fault_count input.new ≡ S.fault_count input.old) }
+    ensures lost { IsTrue (S.tells input.old)
+        → LostAtMost most_read (S.left input.old) (S.left input.new) }
 {
     let before = input.faults();
     let bytes = match read_all(alloc, input, MOST) {
@@ -134,25 +104,41 @@ fn read_lines<S: Source>(alloc: Global, input: &mut S) -> Result<Script<ATTRIBUT
     }
     match read_taken::<ATTRIBUTES>(alloc, bytes.as_slice()) {
         Ok(script) => Ok(script),
-        Err(fault) => Err(Ending::of_fault(fault)),
+        Err(ScriptFault::Line(line)) => Err(Ending::BadScript { line }),
+        Err(ScriptFault::NoMemory) => Err(Ending::Memory),
     }
 }
 
-/// Reads the script, answers its lines over the disk, and prints.
+/// Reads the script, writes the first page of the disk, answers the lines over it, and prints.
 pub fn run_disk<D: Disk, S: Source, O: Sink>(
     alloc: Global,
     disk: D,
     input: &mut S,
     out: &mut O,
 ) -> Worked<D>
-    requires page { 4096 ≤ D.extent disk }
+    requires page { PAGE_BYTES ≤ D.extent disk }
     requires unread { D.read_count disk ≡ 0 }
     requires unwritten { D.write_count disk ≡ 0 }
-    ensures ran { Ran (IsTrue (D.honest disk)) ⊥ (run_over D.Disk S.Source O.Sink result.disk (input.old, input.new) (out.old, out.new) result.ending) }
-    ensures failed { HasFailed (D.read_count result.disk) (D.write_count result.disk) → IsSilent result.ending × IsUntouched (received O.Sink out.old out.new) }
+    ensures runs { RunsDisk (IsTrue (D.honest disk)) D.Disk S.Source O.Sink result.disk
+        (input.old, input.new) (out.old, out.new) (status_of result.ending) }
+    ensures line { IsTrue (S.tells input.old) → NamesFault (S.left input.old) result.ending }
 {
-    match read_lines(alloc, input) {
-        Ok(script) => open_and_answer(alloc, disk, &script, out),
-        Err(ending) => Worked { disk, ending },
+    let script = match read_lines(alloc, input) {
+        Ok(script) => script,
+        Err(ending) => return Worked { disk, ending },
+    };
+    let mut lone = match Lone::begin::<ATTRIBUTES>(disk, CAPACITY) {
+        Ok(lone) => lone,
+        Err(OpenFault { disk, refusal: _ }) => {
+            return Worked {
+                disk,
+                ending: Ending::Device,
+            };
+        }
+    };
+    let ending = answer_lines::<D, O, Brand>(alloc, &mut lone, script.lines(), out, Blank::new(1));
+    Worked {
+        disk: lone.into_disk(),
+        ending,
     }
 }

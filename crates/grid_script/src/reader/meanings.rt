@@ -3,9 +3,9 @@ ghost use Rattle.std.specs.Prelude.{◌≡◌, ◌≤◌, ◌∷◌, []};
 ghost use Rattle.grid_model.specs.Script.{parsed_number, speaks, asks, command, is_comment, meaning};
 ghost use Rattle.grid_script.specs.Reading.{meant, words_in};
 
-use crate::number::number_of;
+use crate::number::parse_number;
 use crate::reader::pieces::{next_word, without_return};
-use crate::reader::requests::{about_of, alone_of, put_of};
+use crate::reader::requests::{about_of, alone_of, parse_put};
 use grid_types::Request;
 
 /// What a line says.
@@ -33,7 +33,7 @@ fn asks<const K: usize>(request: Option<Request<K>>) -> Said<K>
 fn speaks<const K: usize>(word: &[u8]) -> Said<K>
     ensures { meant result ≡ speaks (parsed_number word.now) }
 {
-    match number_of(word) {
+    match parse_number(word) {
         Some(client) if 1 <= client && client <= 16 => Said::Speaks(client as u32),
         _ => Said::Bad,
     }
@@ -56,7 +56,7 @@ fn triple<const K: usize>(word: &[u8], key: &[u8], digits: &[u8]) -> Said<K>
     ensures { meant result ≡ command K (word.now ∷ key.now ∷ digits.now ∷ []) }
 {
     if word == b"put".as_slice() {
-        return asks(put_of(key, digits));
+        return asks(parse_put(key, digits));
     }
     Said::Bad
 }

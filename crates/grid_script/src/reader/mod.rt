@@ -1,14 +1,15 @@
 //! Scripts read from bytes.
 ghost use Rattle.std.specs.Prelude.{◌≡◌, ◌<◌, ◌≤◌, ◌+◌, ◌^◌, ◌∷◌, ◌++◌, [], ℕ, List, Ok, Err, IfOk, IsErrOf, OnOk, length};
 ghost use Rattle.grid_model.specs.Script.{Meaning, meaning, meanings, asked, lines};
-ghost use Rattle.grid_script.specs.Reading.{meant, so_far};
+ghost use Rattle.grid_script.specs.Reading.{meant};
 ghost use Rattle.grid_script.specs.declared.script.ScriptFault.TheVariants as fault;
 
-mod keys;
 pub mod meanings;
+mod parts;
 mod pieces;
 mod queries;
 mod requests;
+mod sides;
 
 use crate::lines::first_line;
 use crate::script::{Script, ScriptFault, is_too_long};
@@ -28,11 +29,14 @@ struct Reading<const K: usize> {
 }
 
 impl<const K: usize> Reading<K> {
+    ghost use Rattle.grid_script.specs.Reading.{read_on};
+
     /// Adds a request of the client that asks.
     fn add(&mut self, request: Request<K>) -> Result<(), ScriptFault>
         ensures client { self.new.client ≡ self.old.client }
         ensures number { self.new.number ≡ self.old.number }
-        ensures added { OnOk result (self.new.list.items ≡ self.old.list.items ++ (record { client = self.old.client; request = request.entry }) ∷ []) }
+        ensures added { OnOk result (self.new.list.items
+            ≡ self.old.list.items ++ (record { client = self.old.client; request = request.entry }) ∷ []) }
         ensures fault { (n : ℕ) → IsErrOf result (fault.Line n) → ⊥ }
     {
         let client = self.client;
@@ -46,8 +50,10 @@ impl<const K: usize> Reading<K> {
     fn take(&mut self, said: Said<K>) -> Result<(), ScriptFault>
         requires { self.old.number < 2 ^ 63 }
         ensures number { self.new.number ≤ self.old.number + 1 }
-        ensures taken { OnOk result ((ms : List (Meaning K)) → so_far self.old.list.items (asked self.old.number self.old.client (meant said.entry ∷ ms)) ≡ so_far self.new.list.items (asked self.new.number self.new.client ms)) }
-        ensures fault { (n : ℕ) → IsErrOf result (fault.Line n) → (ms : List (Meaning K)) → asked self.old.number self.old.client (meant said.entry ∷ ms) ≡ Err n }
+        ensures taken { OnOk result ((ms : List (Meaning K))
+            → read_on self.old (meant said.entry ∷ ms) ≡ read_on self.new ms) }
+        ensures fault { (n : ℕ) → IsErrOf result (fault.Line n) → (ms : List (Meaning K))
+            → asked self.old.number self.old.client (meant said.entry ∷ ms) ≡ Err n }
     {
         match said {
             Said::Silent => {}
@@ -64,7 +70,8 @@ impl<const K: usize> Reading<K> {
 fn read_lines<const K: usize>(alloc: Global, bytes: &[u8]) -> Result<Vec<Line<K>>, ScriptFault>
     requires { K ≤ 4 }
     ensures read { IfOk result (λ list. asked 1 1 (meanings K bytes.now) ≡ Ok list.items) }
-    ensures fault { (n : ℕ) → IsErrOf result (fault.Line n) → asked 1 1 (meanings K bytes.now) ≡ Err n }
+    ensures fault { (n : ℕ) → IsErrOf result (fault.Line n)
+        → asked 1 1 (meanings K bytes.now) ≡ Err n }
 {
     let mut reading = Reading {
         list: Vec::new(alloc),
@@ -74,10 +81,7 @@ fn read_lines<const K: usize>(alloc: Global, bytes: &[u8]) -> Result<Vec<Line<K>
     let mut rest = bytes;
     while !rest.is_empty() {
         let (line, after) = first_line(rest);
-        match reading.take(meaning_of(line)) {
-            Ok(()) => {}
-            Err(fault) => return Err(fault),
-        }
+        reading.take(meaning_of(line))?;
         rest = after;
     }
     Ok(reading.list)
@@ -94,8 +98,6 @@ pub fn read_script<const K: usize>(alloc: Global, bytes: &[u8]) -> Result<Script
     if is_too_long(bytes) {
         return Err(ScriptFault::Line(0));
     }
-    match read_lines(alloc, bytes) {
-        Ok(list) => Ok(Script::of(list)),
-        Err(fault) => Err(fault),
-    }
+    let list = read_lines(alloc, bytes)?;
+    Ok(Script::of(list))
 }

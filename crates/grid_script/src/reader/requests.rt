@@ -2,9 +2,8 @@
 ghost use Rattle.std.specs.Prelude.{◌≡◌, ◌≤◌};
 ghost use Rattle.grid_model.specs.Script.{parsed_key, parsed_data, parsed_put, alone_of, about_of};
 
-use crate::data::data_of;
-use crate::reader::keys::key_of;
-use crate::reader::queries::query_of;
+use crate::data::parse_data;
+use crate::reader::queries::{parse_key, parse_query};
 use grid_types::{Record, Request};
 
 /// What a command of one word asks.
@@ -27,41 +26,29 @@ pub fn about_of<const K: usize>(word: &[u8], argument: &[u8]) -> Option<Request<
     ensures { result ≡ about_of K word.now argument.now }
 {
     if word == b"get".as_slice() {
-        let Some(key) = key_of(argument) else {
-            return None;
-        };
-        return Some(Request::Get(key));
+        return parse_key(argument).map(Request::Get);
     }
     if word == b"remove".as_slice() {
-        let Some(key) = key_of(argument) else {
-            return None;
-        };
-        return Some(Request::Remove(key));
+        return parse_key(argument).map(Request::Remove);
     }
     if word == b"list".as_slice() {
-        let Some(query) = query_of(argument) else {
-            return None;
-        };
-        return Some(Request::List(query));
+        return parse_query(argument).map(Request::List);
     }
     if word == b"count".as_slice() {
-        let Some(query) = query_of(argument) else {
-            return None;
-        };
-        return Some(Request::Count(query));
+        return parse_query(argument).map(Request::Count);
     }
     None
 }
 
 /// The put of a key and data.
-pub fn put_of<const K: usize>(key: &[u8], digits: &[u8]) -> Option<Request<K>>
+pub fn parse_put<const K: usize>(key: &[u8], digits: &[u8]) -> Option<Request<K>>
     requires { K ≤ 4 }
     ensures { result ≡ parsed_put (parsed_key K key.now) (parsed_data digits.now) }
 {
-    let Some(key) = key_of(key) else {
+    let Some(key) = parse_key(key) else {
         return None;
     };
-    let Some(value) = data_of(digits) else {
+    let Some(value) = parse_data(digits) else {
         return None;
     };
     Some(Request::Put(Record { key, value }))

@@ -2,4 +2,3 @@
 
 mod printing;
 mod reading;
-mod taking;

@@ -5,18 +5,6 @@ use grid_types::{Answer, Data, Key, Record, Refusal, Reply, Rows, Stat};
 use std::alloc::{AllocError, Global};
 use std::test::Fail;
 
-/// All parts of a reply, one behind the other.
-fn printed(alloc: Global, reply: &Reply<2>) -> Result<Vec<u8>, AllocError> {
-    let mut text = Vec::new(alloc);
-    let mut out = Text::new();
-    for i in 0..5 {
-        if print_part(reply, i, &mut out) {
-            text.extend_from_slice(out.as_slice())?;
-        }
-    }
-    Ok(text)
-}
-
 /// Two records.
 fn rows(alloc: Global) -> Result<Rows<2>, AllocError> {
     let mut rows = Rows::new(alloc);
@@ -25,55 +13,53 @@ fn rows(alloc: Global) -> Result<Rows<2>, AllocError> {
         value: Data::new(&[10, 255]).unwrap_or_default(),
     })?;
     rows.push(Record {
-        key: Key { numbers: [u64::MAX, 0] },
+        key: Key {
+            numbers: [u64::MAX, 0],
+        },
         value: Data::default(),
     })?;
     Ok(rows)
 }
 
-/// Replies to updates and gets, and their texts.
-fn told() -> [(Reply<2>, &'static str); 6] {
-    [
-        (Reply::Put(Answer { at: 0, value: None }), "@0 new\n"),
-        (
-            Reply::Put(Answer {
-                at: u64::MAX,
-                value: Data::new(&[10, 255]),
-            }),
-            "@18446744073709551615 old 0aff\n",
-        ),
-        (Reply::Removed(Answer { at: 3, value: None }), "@3 none\n"),
-        (
-            Reply::Removed(Answer {
-                at: 4,
-                value: Data::new(&[0]),
-            }),
-            "@4 gone 00\n",
-        ),
-        (Reply::Got(Answer { at: 3, value: None }), "@3 none\n"),
-        (
-            Reply::Got(Answer {
-                at: 3,
-                value: Some(Data::default()),
-            }),
-            "@3 = -\n",
-        ),
-    ]
+/// An answer with data, or with none.
+fn found(at: u64, bytes: Option<&[u8]>) -> Answer<Option<Data>> {
+    let value = match bytes {
+        Some(bytes) => Data::new(bytes),
+        None => None,
+    };
+    Answer { at, value }
 }
 
-/// Other replies, and their texts.
-fn stated() -> [(Reply<2>, &'static str); 5] {
+/// Replies of each kind, and their texts.
+fn replies(alloc: Global) -> Result<[(Reply<2>, &'static str); 12], AllocError> {
     let stat = Stat {
         records: 1,
         cells: 2,
         buckets: 3,
         free: 4,
     };
+    let listed = Answer {
+        at: 9,
+        value: rows(alloc)?,
+    };
     let refusal = Refusal::NoCut {
         cells: 6,
         boundaries: 8,
     };
-    [
+    Ok([
+        (Reply::Put(found(0, None)), "@0 new\n"),
+        (
+            Reply::Put(found(u64::MAX, Some(&[10, 255]))),
+            "@18446744073709551615 old 0aff\n",
+        ),
+        (Reply::Removed(found(3, None)), "@3 none\n"),
+        (Reply::Removed(found(4, Some(&[0]))), "@4 gone 00\n"),
+        (Reply::Got(found(3, None)), "@3 none\n"),
+        (Reply::Got(found(3, Some(b""))), "@3 = -\n"),
+        (
+            Reply::Listed(listed),
+            "@9 rows 2\n1,2 0aff\n18446744073709551615,0 -\n",
+        ),
         (Reply::Counted(Answer { at: 9, value: 12 }), "@9 count 12\n"),
         (
             Reply::Stood(Answer { at: 7, value: stat }),
@@ -82,51 +68,33 @@ fn stated() -> [(Reply<2>, &'static str); 5] {
         (Reply::Rooted(5), "@5 rooted\n"),
         (Reply::Refused(refusal), "nocut cells 6 boundaries 8\n"),
         (Reply::Refused(Refusal::Worn { count: 5 }), "worn 5\n"),
-    ]
+    ])
 }
 
-/// Whether this is the text of a reply.
-fn prints(alloc: Global, reply: &Reply<2>, want: &str) -> Result<bool, AllocError> {
-    let text = printed(alloc, reply)?;
-    Ok(text.as_slice() == want.as_bytes())
+/// The lines of a reply, behind the line of a client and before that of the front.
+fn printed(alloc: Global, reply: &Reply<2>) -> Result<Vec<u8>, AllocError> {
+    let mut text = Vec::new(alloc);
+    let mut lines = Text::new();
+    add_client(12, &mut lines);
+    add_first(reply, &mut lines);
+    text.extend_from_slice(lines.as_slice())?;
+    for row in rows_of(reply) {
+        lines.clear();
+        add_row(row, &mut lines);
+        text.extend_from_slice(lines.as_slice())?;
+    }
+    lines.clear();
+    add_front(21, &mut lines);
+    text.extend_from_slice(lines.as_slice())?;
+    Ok(text)
 }
 
 #[test]
 fn prints_replies(rt: HostRuntime) -> Result<(), Fail> {
-    for (reply, want) in told() {
-        assert!(rt; prints(rt.alloc(), &reply, want)?, "{want}");
-    }
-    for (reply, want) in stated() {
-        assert!(rt; prints(rt.alloc(), &reply, want)?, "{want}");
+    for (reply, text) in replies(rt.alloc())? {
+        let want = format!(in rt.alloc(); "client 12\n{text}front 21\n")?;
+        let told = printed(rt.alloc(), &reply)?;
+        assert_eq!(rt; told.as_slice(), want.as_bytes());
     }
     Ok(())
-}
-
-#[test]
-fn prints_a_listing(rt: HostRuntime) -> Result<(), Fail> {
-    let listed = Reply::Listed(Answer {
-        at: 9,
-        value: rows(rt.alloc())?,
-    });
-    let want = "@9 rows 2\n1,2 0aff\n18446744073709551615,0 -\n";
-    assert!(rt; prints(rt.alloc(), &listed, want)?);
-    Ok(())
-}
-
-#[test]
-fn adds_lines(rt: HostRuntime) {
-    let listed = rows(rt.alloc()).expect(&rt, "memory");
-    let reply = Reply::<2>::Listed(Answer {
-        at: 9,
-        value: listed,
-    });
-    let mut out = Text::new();
-    add_client(12, &mut out);
-    add_first(&reply, &mut out);
-    if let Some(row) = rows_of(&reply).last() {
-        add_row(row, &mut out);
-    }
-    add_front(21, &mut out);
-    let want = b"client 12\n@9 rows 2\n18446744073709551615,0 -\nfront 21\n";
-    assert_eq!(rt; out.as_slice(), want.as_slice());
 }

@@ -12,24 +12,14 @@ fn told(outcome: Result<Script<2>, ScriptFault>) -> Result<usize, u64> {
     }
 }
 
-/// Scripts of two attributes: how many lines ask something, or which one is the first fault.
-const SCRIPTS: [(&str, Result<usize, u64>); 71] = [
+/// Scripts of two attributes: how many lines ask something, or which one is the first fault. The program takes all that
+/// these ask.
+const SCRIPTS: [(&str, Result<usize, u64>); 74] = [
     ("", Ok(0)),
     ("\n", Ok(0)),
-    ("\n\n   \n\r\n \r\nstat\n\n", Ok(1)),
-    ("# a note\n#\n  #stat\n#\tget\r1,2 \u{e9}\nstat\n#", Ok(1)),
-    ("stat", Ok(1)),
-    ("stat\r", Ok(1)),
-    ("  stat  \r\n", Ok(1)),
-    ("checkpoint\n", Ok(1)),
-    (
-        "get 3,7\n\nremove 3,7\nlist *,*\ncount 3,0..9\nput 3,7 0a",
-        Ok(5),
-    ),
     ("put   3,7    00fF  \n", Ok(1)),
     ("put 0,0 -\n", Ok(1)),
     ("get 0,18446744073709551615\n", Ok(1)),
-    ("list 3,*\ncount 5..5,0..18446744073709551615\n", Ok(2)),
     ("client 1\nclient 16\n", Ok(0)),
     ("get 0,18446744073709551616\n", Err(1)),
     ("get 0,99999999999999999999999999\n", Err(1)),
@@ -91,9 +81,50 @@ const SCRIPTS: [(&str, Result<usize, u64>); 71] = [
     ("stat\r\r\n", Err(1)),
     ("stat\r \n", Err(1)),
     ("st\rat\n", Err(1)),
-    ("stat\nstats", Err(2)),
     ("# note\n\nget x\nput y\n", Err(3)),
-    ("client 2\n\nstat\r\n get 1;1\n", Err(4)),
+    ("get 3,7\n", Ok(1)),
+    ("get 3,7", Ok(1)),
+    ("get 0,18446744073709551615\nput 0,0 -\n", Ok(2)),
+    ("get 3,+7\n", Err(1)),
+    ("get  3,7\n", Ok(1)),
+    ("get 3,7 \n", Ok(1)),
+    ("get 3,7\r\n", Ok(1)),
+    ("get 3,7\n\nget 3,7\n", Ok(2)),
+    ("# two gets\nget 3,7\n client 1\nget 3,7\n", Ok(2)),
+    ("put 3\nlist *,*\n", Err(1)),
+    ("client 2\nclient 1\nget 3,7\n", Ok(1)),
+    ("client 17\nget 3,7\n", Err(1)),
+    ("put 3,7 \n", Err(1)),
+];
+
+/// Scripts of which the program does not take all: what they say, and what it takes.
+const UNTAKEN: [(&str, Result<usize, u64>, Result<usize, u64>); 14] = [
+    ("\n\n   \n\r\n \r\nstat\n\n", Ok(1), Err(6)),
+    (
+        "# a note\n#\n  #stat\n#\tget\r1,2 \u{e9}\nstat\n#",
+        Ok(1),
+        Err(5),
+    ),
+    ("stat", Ok(1), Err(1)),
+    ("stat\r", Ok(1), Err(1)),
+    ("  stat  \r\n", Ok(1), Err(1)),
+    ("checkpoint\n", Ok(1), Err(1)),
+    (
+        "get 3,7\n\nremove 3,7\nlist *,*\ncount 3,0..9\nput 3,7 0a",
+        Ok(5),
+        Err(3),
+    ),
+    (
+        "list 3,*\ncount 5..5,0..18446744073709551615\n",
+        Ok(2),
+        Err(1),
+    ),
+    ("stat\nstats", Err(2), Err(1)),
+    ("client 2\n\nstat\r\n get 1;1\n", Err(4), Err(3)),
+    ("get 3,7\nclient 2\nget 3,7\n", Ok(2), Err(3)),
+    ("list *,*\nput 3\n", Err(2), Err(1)),
+    ("get 3,7\n\nclient 2\nget 3,7\nput 3\n", Err(5), Err(4)),
+    ("get 3,7\nget 3,7\nput 3,7 -\nremove 3,7", Ok(4), Err(4)),
 ];
 
 #[test]
@@ -102,6 +133,23 @@ fn judges_scripts(rt: HostRuntime) {
         assert_eq!(rt;
             told(read_script(rt.alloc(), text.as_bytes())),
             want,
+            "{text}"
+        );
+        assert_eq!(rt;
+            told(read_taken(rt.alloc(), text.as_bytes())),
+            want,
+            "{text}"
+        );
+    }
+    for (text, want, taken) in UNTAKEN {
+        assert_eq!(rt;
+            told(read_script(rt.alloc(), text.as_bytes())),
+            want,
+            "{text}"
+        );
+        assert_eq!(rt;
+            told(read_taken(rt.alloc(), text.as_bytes())),
+            taken,
             "{text}"
         );
     }
@@ -116,7 +164,9 @@ fn reads_lines(rt: HostRuntime) {
         Line {
             client: 1,
             request: Request::Put(Record {
-                key: Key { numbers: [3, u64::MAX] },
+                key: Key {
+                    numbers: [3, u64::MAX],
+                },
                 value: Data::new(&[0, 255, 161]).unwrap_or_default(),
             }),
         },

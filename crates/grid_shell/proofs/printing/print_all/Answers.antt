@@ -1,50 +1,38 @@
-use Rattle.std.proofs.Common.{◌≡◌, ◌∙◌, ◌+◌, sym, ap, length, arith, ◌++◌}
+use Rattle.std.proofs.Common.{◌≡◌, ◌∙◌, ◌+◌, ◌++◌, List, ℕ, Ok, length, refl, sym, ap, arith}
 use Rattle.std.proofs.lemmas.Result.{on_ok_weaker}
-use Rattle.grid_shell.proofs.Adding.{adds_next}
-use Rattle.grid_shell.proofs.Lines.{reply_text, text_to, text_more, all_text, one_more, pieces_more, adds_pieces, adds_text}
+use Rattle.grid_model.specs.Text.{text, front_line}
+use Rattle.disk_trait.specs.declared.sink.SinkFailed.{SinkFailed}
+use Rattle.grid_shell.specs.Printing.{Passes}
+use Rattle.grid_shell.specs.Replies.{group_of}
+use Rattle.grid_shell.proofs.Adding.{adds_next, passes_more, passes_on}
+use Rattle.grid_shell.proofs.Lines.{text_to, all_text, passes_reply, adds_text}
 use Rattle.grid_shell.proofs.printing.print_all.Goals as goal
+use Rattle.grid_shell.proofs.printing.print_all.Goals.{After-put_all}
 
 pub loop-reply-preserved : goal.loop-reply-preserved
-loop-reply-preserved g c =
-    let inv = c.loop-reply.invariant in
-    let i = c.loop-reply.reply-index in
-    let more : text_to c.args.replies.now (i + 1) ≡ text_to c.args.replies.now i ++ reply_text c.reply-item.result = text_more c.args.replies.now i c.reply-item.result (omega arith) ∙ ap (λ r. text_to c.args.replies.now i ++ reply_text r) (sym c.reply-item.is) in
-    record {
-      later = omega (arith, c.in-Ok.ensures.cause.later, inv.later);
-      tells = c.in-Ok.ensures.tells ∙ inv.tells;
-      printed = λ h. pieces_more _ _ _ _ _ _ _ (c.in-Ok.ensures.kept (inv.tells ∙ h)) (inv.printed h) more;
-      sent = λ h. adds_pieces _ _ _ _ _ _ _ (inv.sent h) (c.in-Ok.ensures.front (inv.tells ∙ h)) (inv.printed h) more;
-    }
+loop-reply-preserved g c = passes_on _ _ _ c.args.out.now c.loop-reply.out c.print_reply.new.out (Ok tt) (passes_reply c.args.replies.now c.loop-reply.reply-index c.reply-item.result (omega arith) c.reply-item.is c.loop-reply.lines.items c.args.out.now c.loop-reply.out c.loop-reply.invariant) c.in_ok-print_reply.ensures
 
-pub returns-in-Err-clause-front : goal.returns-in-Err-clause-front
-returns-in-Err-clause-front g c = λ h.
-    let inv = c.loop-reply.invariant in
-    let i = c.loop-reply.reply-index in
-    let more : text_to c.args.replies.now (i + 1) ≡ text_to c.args.replies.now i ++ reply_text c.reply-item.result = text_more c.args.replies.now i c.reply-item.result (omega arith) ∙ ap (λ r. text_to c.args.replies.now i ++ reply_text r) (sym c.reply-item.is) in
-    adds_text c.args.replies.now (i + 1) c.args.front _ _ (adds_pieces _ _ _ _ _ _ _ (inv.sent h) (c.print_reply.ensures.front (inv.tells ∙ h)) (inv.printed h) more)
+pub returns-in_err-print_reply-clause-front : goal.returns-in_err-print_reply-clause-front
+returns-in_err-print_reply-clause-front g c = λ h.
+    let state = passes_on _ _ _ c.args.out.now c.loop-reply.out c.print_reply.new.out _ (passes_reply c.args.replies.now c.loop-reply.reply-index c.reply-item.result (omega arith) c.reply-item.is c.loop-reply.lines.items c.args.out.now c.loop-reply.out c.loop-reply.invariant) c.in_err-print_reply.ensures in
+    adds_text c.args.replies.now (c.loop-reply.reply-index + 1) c.args.front _ _ (state.front h)
 
-pub returns-in-Err-make_room-clause-front : goal.returns-in-Err-make_room-clause-front
-returns-in-Err-make_room-clause-front g c = λ h.
-    adds_text c.args.replies.now c.loop-reply.reply-index c.args.front _ _
-    (adds_next _ _ _ _ _ (c.loop-reply.invariant.sent h) (c.loop-reply.invariant.printed h) (c.make_room.ensures.front (c.loop-reply.invariant.tells ∙ h)))
+pub returns-in_err-make_room-clause-front : goal.returns-in_err-make_room-clause-front
+returns-in_err-make_room-clause-front g c = λ h.
+    let state = passes_on _ _ _ c.args.out.now c.loop-reply.out c.make_room.new.out _ c.loop-reply.invariant c.in_err-make_room.ensures.passes in
+    adds_text c.args.replies.now c.loop-reply.reply-index c.args.front _ _ (state.front h)
+
+-- all replies and the front have passed into sink and buffer
+whole_text : (g : _) (c : After-put_all g) → Passes {E = SinkFailed} g.O.Sink (text (group_of c.args.replies.now) c.args.front) c.as_slice.result.now c.args.out.now c.make_room.new.out (Ok tt)
+whole_text g c =
+    let n = c.loop-reply.reply-index in
+    let end : length c.args.replies.now ≡ n = omega (arith, c.loop-reply-test.false, c.loop-reply.auto.reply-index-end) in
+    passes_more (text_to c.args.replies.now n) c.make_room.new.lines.items c.as_slice.result.now (front_line c.args.front) (text (group_of c.args.replies.now) c.args.front) c.args.out.now c.make_room.new.out
+    (passes_on _ _ _ c.args.out.now c.loop-reply.out c.make_room.new.out (Ok tt) c.loop-reply.invariant c.in_ok-make_room.ensures.passes)
+    (c.as_slice.ensures.value ∙ c.add_front.ensures.line) (sym (all_text c.args.replies.now n c.args.front end))
 
 pub returns-clause-printed : goal.returns-clause-printed
-returns-clause-printed g c = λ h.
-    let told = c.in-Ok-make_room.ensures.tells ∙ c.loop-reply.invariant.tells ∙ h in
-    let end : length c.args.replies.now ≡ c.loop-reply.reply-index = omega (arith, c.loop-reply-test.false, c.loop-reply.auto.reply-index-end) in
-    let all = one_more _ _ _ _ _ _ _ (c.as_slice.ensures.value ∙ c.add_front.ensures.line)
-    (c.in-Ok-make_room.ensures.kept (c.loop-reply.invariant.tells ∙ h) ∙ c.loop-reply.invariant.printed h)
-    (sym (all_text c.args.replies.now c.loop-reply.reply-index c.args.front end)) in
-    on_ok_weaker c.put_all.result (λ added. added ∙ all) (c.put_all.ensures.added told)
+returns-clause-printed g c = λ h. on_ok_weaker c.put_all.result (λ added. added ∙ (whole_text g c).kept h) (c.put_all.ensures.added ((whole_text g c).tells ∙ h))
 
 pub returns-clause-front : goal.returns-clause-front
-returns-clause-front g c = λ h.
-    let told = c.in-Ok-make_room.ensures.tells ∙ c.loop-reply.invariant.tells ∙ h in
-    let end : length c.args.replies.now ≡ c.loop-reply.reply-index = omega (arith, c.loop-reply-test.false, c.loop-reply.auto.reply-index-end) in
-    let all = one_more _ _ _ _ _ _ _ (c.as_slice.ensures.value ∙ c.add_front.ensures.line)
-    (c.in-Ok-make_room.ensures.kept (c.loop-reply.invariant.tells ∙ h) ∙ c.loop-reply.invariant.printed h)
-    (sym (all_text c.args.replies.now c.loop-reply.reply-index c.args.front end)) in
-    adds_next _ _ _ _ _
-    (adds_text c.args.replies.now c.loop-reply.reply-index c.args.front _ _
-    (adds_next _ _ _ _ _ (c.loop-reply.invariant.sent h) (c.loop-reply.invariant.printed h) (c.in-Ok-make_room.ensures.front (c.loop-reply.invariant.tells ∙ h))))
-    all (c.put_all.ensures.front told)
+returns-clause-front g c = λ h. adds_next _ _ _ _ _ ((whole_text g c).front h) ((whole_text g c).kept h) (c.put_all.ensures.front ((whole_text g c).tells ∙ h))

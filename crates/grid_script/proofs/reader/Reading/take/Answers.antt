@@ -17,19 +17,19 @@ pub returns-in-Bad-clause-fault : goal.returns-in-Bad-clause-fault
 returns-in-Bad-clause-fault g c = λ n e ms.
     taken-bad c.args.self.now.number c.args.self.now.client c.args.said ms c.in-Bad.is ∙ ap Err (same_line (Err (fault.Line c.args.self.now.number)) c.args.self.now.number n refl e)
 
--- what follows where the next line has been counted
-abbrev following : {K : ℕ} → List (Meaning K) → Reading K → Result (List (Line K)) ℕ
-following ms r = so_far r.list.items (asked (r.number + 1) r.client ms)
+-- how it is read on where the next line has been counted
+abbrev read_past : {K : ℕ} → List (Meaning K) → Reading K → Result (List (Line K)) ℕ
+read_past ms r = so_far r.list.items (asked (r.number + 1) r.client ms)
 
 pub returns-clause-taken : goal.returns-clause-taken
 returns-clause-taken g c = λ ms.
     let old = c.args.self.now in
     elim c.match-said.branch [
-      | in-Silent w ↦ taken-silent old.list.items old.number old.client c.args.said ms w.in-Silent.is ∙ ap (following ms) (sym w.self-is)
-      | in-Speaks w ↦ taken-speaks old.list.items old.number old.client w.in-Speaks.client c.args.said ms w.in-Speaks.is ∙ ap (following ms) (sym w.self-is)
+      | in-Silent w ↦ taken-silent old.list.items old.number old.client c.args.said ms w.in-Silent.is ∙ ap (read_past ms) (sym w.self-is)
+      | in-Speaks w ↦ taken-speaks old.list.items old.number old.client w.in-Speaks.client c.args.said ms w.in-Speaks.is ∙ ap (read_past ms) (sym w.self-is)
       | in-Asks+in_ok-add-in-Asks w ↦
           taken-asks old.list.items w.add.new.self.list.items old.number old.client w.in-Asks.request c.args.said ms w.in-Asks.is w.in_ok-add-in-Asks.ensures.added
           ∙ ap (λ n. so_far w.add.new.self.list.items (asked (n + 1) old.client ms)) (sym w.add.ensures.number)
           ∙ ap (λ n. so_far w.add.new.self.list.items (asked (w.add.new.self.number + 1) n ms)) (sym w.add.ensures.client)
-          ∙ ap (following ms) (sym w.self-is)
+          ∙ ap (read_past ms) (sym w.self-is)
     ]

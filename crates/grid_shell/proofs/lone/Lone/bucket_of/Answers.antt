@@ -1,24 +1,22 @@
-use Rattle.std.proofs.Common.{◌≡◌, ◌∙◌, sym, subst}
+use Rattle.std.proofs.Common.{◌≡◌, ◌∙◌, inr, refl, sym, subst}
 use Rattle.std.proofs.lemmas.Bool.{false≢true}
 use Rattle.grid_types.specs.Regions.{Within}
-use Rattle.bucket_page.specs.Spelling.{Spells}
+use Rattle.grid_types.specs.declared.refusal.Refusal.TheVariants.{Damaged}
+use Rattle.grid_shell.specs.Standing.{IsDamaged}
+use Rattle.disk_trait.proofs.Calls.{causes_other}
+use Rattle.grid_shell.proofs.Buckets.{expected-read}
 use Rattle.grid_shell.proofs.lone.Lone.bucket_of.Goals as goal
+use Rattle.grid_shell.proofs.lone.Lone.bucket_of.Goals.{Then-not-contains}
 
-pub returns-then-not-contains-clause-damaged : goal.returns-then-not-contains-clause-damaged
-returns-then-not-contains-clause-damaged g c = λ e b expected.
+-- a bucket whose region has not the key is none that is expected
+page_damaged : (g : _) (c : Then-not-contains g) → IsDamaged g.row.K c.args.self.now.capacity c.read_page.new.out c.args.key.now.numbers
+page_damaged g c = λ b expected.
     let same : c.in-Some.bucket ≡ b = c.in-Some.ensures.only b expected.spelled in
     false≢true (sym c.if-not-contains.true ∙ c.contains.ensures.within.1 (subst (λ x. Within x.region.lo x.region.hi c.args.key.now.numbers) (sym same) expected.inside))
 
-pub returns-then-not-contains-clause-undamaged : goal.returns-then-not-contains-clause-undamaged
-returns-then-not-contains-clause-undamaged g c = λ h e t s.
-    returns-then-not-contains-clause-damaged g c e s.bucket (record {
-      spelled = subst (λ p. Spells g.row.K c.args.self.now.capacity p s.bucket) (sym (c.in-Ok.ensures.bytes h)) s.has.spelled;
-      zero = s.has.zero;
-      inside = s.whole c.args.key.now.numbers c.contains.ensures.key;
-    })
+pub returns-then-not-contains-clause-causes : goal.returns-then-not-contains-clause-causes
+returns-then-not-contains-clause-causes g c = causes_other (Damaged 0) (λ e. cc) (λ e. cc) (inr (refl, page_damaged g c))
 
-pub returns-clause-found : goal.returns-clause-found
-returns-clause-found g c = λ h. (
-  record { spelled = subst (λ p. Spells g.row.K c.args.self.now.capacity p c.in-Some.bucket) (c.in-Ok.ensures.bytes h) c.in-Some.ensures.found; zero = c.if-bucket-ne0.false },
-  c.contains.ensures.within.0 c.if-not-contains.false,
-)
+pub returns-then-not-contains-clause-table : goal.returns-then-not-contains-clause-table
+returns-then-not-contains-clause-table g c = λ t s.
+    absurd (page_damaged g c s.stands.bucket (expected-read s.stands c.read_page.new.out c.args.key.now.numbers (c.in_ok-read_page.ensures.bytes s.told) c.contains.ensures.key))

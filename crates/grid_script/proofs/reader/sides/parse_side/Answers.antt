@@ -3,7 +3,7 @@ use Rattle.grid_model.specs.Script.{is_text}
 use Rattle.grid_script.specs.Reading.{pieces_left}
 use Rattle.grid_script.proofs.Pieces.{left-more, pieces-some}
 use Rattle.grid_script.proofs.Sides.{side-long}
-use Rattle.grid_script.proofs.reader.queries.side_of.Goals as goal
+use Rattle.grid_script.proofs.reader.sides.parse_side.Goals as goal
 
 pub returns-then-more : goal.returns-then-more
 returns-then-more c =

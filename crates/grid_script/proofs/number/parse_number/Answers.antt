@@ -8,7 +8,7 @@ use Rattle.std.proofs.lemmas.Bool.Decides.{Decides-eqb}
 use Rattle.std.proofs.lemmas.Slice.Eq.{slice_eq-Decides}
 use Rattle.grid_script.proofs.NumberTexts.{ok_or_err}
 use Rattle.grid_script.proofs.NumberTexts.{number-found, number-none}
-use Rattle.grid_script.proofs.number.number_of.Goals as goal
+use Rattle.grid_script.proofs.number.parse_number.Goals as goal
 
 same_ok : {E : Type 0} (r : Result ℕ E) (m n : ℕ) → r ≡ Ok m → r ≡ Ok n → m ≡ n
 same_ok r m n a b = cc

@@ -1,0 +1,50 @@
+-- The statuses of a run, and what is told of each.
+use Rattle.std.specs.Prelude.{◌≡◌, ◌⊎◌, ◌++◌, ◌==◌, ◌||◌, ℕ, List, [], ◌∷◌, codes, decimal, max, if◌then◌else◌}
+use Rattle.grid_types.specs.declared.refusal.Refusal.{Refusal}
+use Rattle.grid_types.specs.declared.refusal.Refusal.TheVariants as refusal
+use Rattle.grid_types.specs.declared.request.Reply.{Reply}
+use Rattle.grid_types.specs.declared.request.Reply.TheVariants as reply
+
+-- the status of a refusal: 4 where bytes are not what they have to be, 6 for want of memory, 7 where the request can't be done, 8 where a failed batch leaves it open; of a fault of the disk the counts tell
+abbrev pub status_of_refusal : Refusal → ℕ
+status_of_refusal refusal.NoMemory = 6
+status_of_refusal refusal.ReadFault = 0
+status_of_refusal refusal.WriteFault = 0
+status_of_refusal (refusal.Unsure faults before) = 8
+status_of_refusal (refusal.Stopped faults opened) = 8
+status_of_refusal (refusal.Full free need) = 7
+status_of_refusal (refusal.NoCut cells boundaries) = 7
+status_of_refusal (refusal.Damaged page) = 4
+status_of_refusal refusal.Foreign = 4
+status_of_refusal (refusal.Version found) = 4
+status_of_refusal refusal.Seats = 7
+status_of_refusal refusal.BadShape = 7
+status_of_refusal refusal.BadQuery = 7
+status_of_refusal (refusal.Worn count) = 7
+status_of_refusal (refusal.Arity found) = 4
+
+-- the status of a reply: that of its refusal, or 0
+abbrev pub status_of_reply : {K : ℕ} → Reply K → ℕ
+status_of_reply (reply.Refused why) = status_of_refusal why
+status_of_reply _ = 0
+
+-- the status of some replies: the greatest of them
+unfoldable pub greatest_status : {K : ℕ} → List (Reply K) → ℕ
+greatest_status [] = 0
+greatest_status (r ∷ rs) = max (status_of_reply r) (greatest_status rs)
+
+-- the status where a device has failed too: 5 at least, but for words and scripts that were refused before
+abbrev pub status_with_fault : ℕ → ℕ
+status_with_fault s = if (s == 2) || (s == 3) then s else max 5 s
+
+-- a status of a run that prints nothing: its script has a fault, a device failed, or there was no memory
+abbrev pub IsSilent : ℕ → Type 0
+IsSilent s = (s ≡ 3) ⊎ (s ≡ 5) ⊎ (s ≡ 6)
+
+-- what is told of a status on the error sink; with status 3 a line is named
+abbrev pub error_text : ℕ → ℕ → List ℕ
+error_text status line =
+    if status == 2 then codes "grid: words\n" else (
+    if status == 3 then codes "grid: script line " ++ (decimal line ++ codes "\n") else (
+    if status == 5 then codes "grid: device\n" else (
+    if status == 6 then codes "grid: memory\n" else [])))
