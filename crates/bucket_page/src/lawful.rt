@@ -8,7 +8,8 @@ use grid_types::{Record, Region};
 
 /// Whether the region has a key.
 fn is_ordered<const K: usize>(region: &Region<K>) -> bool
-    ensures { IsTrue result ↔ ((a : ℕ) → a < K → slice_index region.now.lo a ≤ slice_index region.now.hi a) }
+    ensures { IsTrue result
+        ↔ ((a : ℕ) → a < K → slice_index region.now.lo a ≤ slice_index region.now.hi a) }
 {
     for a in 0..K {
         if region.hi[a] < region.lo[a] {

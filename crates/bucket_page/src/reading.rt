@@ -57,7 +57,9 @@ fn is_spelled<const K: usize>(page: &[u8; PAGE_BYTES], bucket: &Bucket<K>, capac
     requires fits { array_vec_len bucket.now.rows ≤ capacity }
     ensures lawful { IsTrue result → AreLawfulFields bucket.now }
     ensures bytes { IsTrue result → page.now ≡ bucket_spelling (bucket_of bucket.now) }
-    ensures all { AreLawfulFields bucket.now → page.now ≡ bucket_spelling (bucket_of bucket.now) → IsTrue result }
+    ensures all { AreLawfulFields bucket.now
+        → page.now ≡ bucket_spelling (bucket_of bucket.now)
+        → IsTrue result }
 {
     if !is_lawful(bucket) {
         return false;
@@ -72,8 +74,10 @@ pub fn decode<const K: usize>(page: &[u8; PAGE_BYTES], capacity: u16) -> Option<
     requires few { K ≤ MOST_ATTRIBUTES }
     requires lawful { capacity ≤ MOST_RECORDS }
     ensures found { IfSome result (λ b. SpellsBucket capacity page.now (bucket_of b)) }
-    ensures only { IfSome result (λ b. (c : Bucket K) → SpellsBucket capacity page.now (bucket_of c) → b ≡ c) }
-    ensures none { IfNone result ((b : Bucket K) → SpellsBucket capacity page.now (bucket_of b) → ⊥) }
+    ensures only { IfSome result
+        (λ b. (c : Bucket K) → SpellsBucket capacity page.now (bucket_of c) → b ≡ c) }
+    ensures none { IfNone result
+        ((b : Bucket K) → SpellsBucket capacity page.now (bucket_of b) → ⊥) }
 {
     let count = get_u16(page, 8);
     if count > capacity {

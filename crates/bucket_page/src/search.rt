@@ -8,7 +8,8 @@ use std::cmp::Ordering;
 
 /// The index of the record that has the key, or else the index at which it would stand, as std's `binary_search` tells it.
 pub fn search<const K: usize>(rows: &[Record<K>], key: &Key<K>) -> Result<usize, usize>
-    ensures found { MatchResult result (IsFoundAt key.now.numbers rows.now) (FitsBefore key.now.numbers rows.now) }
+    ensures found { MatchResult result (IsFoundAt key.now.numbers rows.now)
+        (FitsBefore key.now.numbers rows.now) }
     ensures key { IsKey K key.now.numbers }
 {
     let numbers = key.numbers();

@@ -32,7 +32,8 @@ pub fn put_corner<const K: usize>(page: &mut [u8; PAGE_BYTES], at: usize, corner
     requires room { at + KEY_BYTES ≤ PAGE_BYTES }
     requires few { K ≤ MOST_ATTRIBUTES }
     ensures written { page.new ≡ replaced at (padded KEY_BYTES (numbers 8 corner.now)) page.old }
-    ensures front { take (at + KEY_BYTES) page.new ≡ take at page.old ++ padded KEY_BYTES (numbers 8 corner.now) }
+    ensures front { take (at + KEY_BYTES) page.new
+        ≡ take at page.old ++ padded KEY_BYTES (numbers 8 corner.now) }
 {
     for a in 0..K {
         set_u64(page, at + 8 * a, corner[a]);
@@ -44,7 +45,8 @@ pub fn put_corner<const K: usize>(page: &mut [u8; PAGE_BYTES], at: usize, corner
 pub fn put_words(page: &mut [u8; PAGE_BYTES], at: usize, words: &[u32])
     requires { at + 4 * length words.now ≤ PAGE_BYTES }
     ensures written { page.new ≡ replaced at (numbers 4 words.now) page.old }
-    ensures front { take (at + 4 * length words.now) page.new ≡ take at page.old ++ numbers 4 words.now }
+    ensures front { take (at + 4 * length words.now) page.new
+        ≡ take at page.old ++ numbers 4 words.now }
 {
     for (i, word) in words.iter().enumerate() {
         set_u32(page, at + 4 * i, *word);
@@ -55,7 +57,8 @@ pub fn put_words(page: &mut [u8; PAGE_BYTES], at: usize, words: &[u32])
 pub fn put_numbers(page: &mut [u8; PAGE_BYTES], at: usize, words: &[u64])
     requires { at + 8 * length words.now ≤ PAGE_BYTES }
     ensures written { page.new ≡ replaced at (numbers 8 words.now) page.old }
-    ensures front { take (at + 8 * length words.now) page.new ≡ take at page.old ++ numbers 8 words.now }
+    ensures front { take (at + 8 * length words.now) page.new
+        ≡ take at page.old ++ numbers 8 words.now }
 {
     for (i, word) in words.iter().enumerate() {
         set_u64(page, at + 8 * i, *word);

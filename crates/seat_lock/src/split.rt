@@ -50,7 +50,8 @@ impl<C: Stepped> SeatLock<C> {
         requires place { (x : C.Part) × (seat.old.me.0.seat ≡ Some (place, x)) }
         ensures seat { SameSeat seat.old seat.new }
         ensures rests { IsBetweenCalls seat.new.me }
-        ensures other { IfOk result (λ r. (r.0.table_id ≡ seat.old.table_id) × IsBetweenCalls r.0.me) }
+        ensures other { IfOk result
+            (λ r. (r.0.table_id ≡ seat.old.table_id) × IsBetweenCalls r.0.me) }
         ensures ok { IfOk result
             (λ r. SplitOff C.Stepped seat.old.me.0 seat.new.me.0 r.0.me.0 r.1) }
         ensures err { IfErr result

@@ -28,7 +28,8 @@ const LARGE: u64 = 1128;
 
 /// The shape of a file with so many data pages.
 const fn shape(pages: u32) -> Shape
-    ensures { result ≡ record { k = 2; capacity = 2; pages = pages; slots = 1; boundaries = 600; cells = 1000 } }
+    ensures { result
+        ≡ record { k = 2; capacity = 2; pages = pages; slots = 1; boundaries = 600; cells = 1000 } }
 {
     Shape {
         k: 2,
