@@ -5,15 +5,13 @@ use Rattle.std.specs.List.{list_any}
 use Rattle.std.specs.Option.{option_map_or}
 use Rattle.grid_types.specs.declared.sizes.TheConstants.{PAGE_BYTES, NUMBERS_ON_PAGE, WORDS_ON_PAGE}
 use Rattle.grid_types.specs.declared.shape.Shape.{Shape}
-use Rattle.grid_types.specs.declared.update.Record.{Record}
 use Rattle.grid_types.specs.declared.layout_change.LoggedUpdate.{LoggedUpdate}
-use Rattle.grid_types.specs.Keys.{IsKey}
-use Rattle.grid_types.specs.Regions.{contains, IsRegion}
+use Rattle.grid_types.specs.Regions.{contains}
 use Rattle.grid_types.specs.Pages.{page_of}
 use Rattle.grid_types.specs.Shapes.{is_shape, file_pages, area_pages, header_page, table_page, data_page}
 use Rattle.grid_types.specs.Shapes as places
 use Rattle.grid_model.specs.Lists.{below, is_among}
-use Rattle.grid_model.specs.Tables.{Table, IsTable, effect, with_data, pairs_of}
+use Rattle.grid_model.specs.Tables.{Table, effect, with_data}
 use Rattle.grid_model.specs.Scales.{scale_of}
 use Rattle.grid_model.specs.Cells.{parts}
 use Rattle.grid_model.specs.Layouts.{BucketBox, Layout, box, holder, records_inside, directory_part, IsSound}
@@ -21,7 +19,7 @@ use Rattle.grid_model.specs.Notes.{updated_key, after_note, IsLawfulNote}
 use Rattle.grid_model.specs.Lone.{State, opened, free, renewed, published, record_of, how_many}
 use Rattle.grid_model.specs.Spellings.{shape_bytes, RootFields, root_bytes, scale_spelling, list_spelling, bucket_table_spelling, directory_spelling, BucketOf, gate_spelling, LoggedBatch, slot_spelling}
 use Rattle.grid_model.specs.Buckets.{SpellsBucket}
-use Rattle.grid_model.specs.Lawful.{IsData, IsRootOn, Area, IsAreaOf, IsBatch, nowhere}
+use Rattle.grid_model.specs.Lawful.{IsRootOn, Area, IsAreaOf, IsBatch, nowhere}
 
 -- an image is a file of a shape with K attributes: both header pages begin with the shape, and all pages are there
 pub record HasShape (K : ℕ) (image : List ℕ) (s : Shape) : Type 0 where

@@ -1,7 +1,7 @@
 -- Which fields of pages are lawful: their numbers are in their ranges, and say what a file may say.
-use Rattle.std.specs.Prelude.{◌≡◌, ℕ, ◌+◌, ◌*◌, ◌/◌, ◌%◌, ◌<◌, ◌≤◌, ◌^◌, List, ◌++◌, ◌==◌, not, map, filter, length, All, IsTrue, ⊤}
+use Rattle.std.specs.Prelude.{◌≡◌, ℕ, ◌+◌, ◌*◌, ◌%◌, ◌<◌, ◌≤◌, ◌^◌, List, ◌++◌, ◌==◌, not, map, filter, length, All, IsTrue, ⊤}
 use Rattle.grid_types.specs.Shapes.{word_pages}
-use Rattle.grid_types.specs.declared.sizes.TheConstants.{LONGEST_DATA, MOST_UPDATES, WORDS_ON_PAGE}
+use Rattle.grid_types.specs.declared.sizes.TheConstants.{LONGEST_DATA, MOST_UPDATES}
 use Rattle.grid_types.specs.declared.shape.Shape.{Shape}
 use Rattle.grid_types.specs.declared.update.Update.{Update}
 use Rattle.grid_types.specs.declared.update.Update.TheVariants.{Put, Remove}

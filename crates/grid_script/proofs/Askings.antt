@@ -13,10 +13,6 @@ module _ {K : ℕ} where
   so_far-also ls l (Ok more) = ap Ok (sym (append_assoc ls (l ∷ []) more))
   so_far-also ls l (Err n) = refl
 
-  so_far-none : (o : Result (List (Line K)) ℕ) → so_far [] o ≡ o
-  so_far-none (Ok more) = refl
-  so_far-none (Err n) = refl
-
   pub taken-silent : (ls : List (Line K)) (n client : ℕ) (s : Said K) (ms : List (Meaning K)) → s ≡ said.Silent → so_far ls (asked n client (meant s ∷ ms)) ≡ so_far ls (asked (n + 1) client ms)
   unfolding asked
   taken-silent ls n client s ms e = ap (λ v. so_far ls (asked n client (meant v ∷ ms))) e

@@ -1,14 +1,14 @@
 -- What a sink has received of a text, and what stands in the buffer before it.
-use Rattle.std.proofs.Common.{◌≡◌, ◌≤◌, ◌+◌, ℕ, List, ◌++◌, IsTrue, Result, Ok, Err, length, take, drop, sym, ap, ◌∙◌, append_assoc, arith}
+use Rattle.std.proofs.Common.{◌≡◌, ◌+◌, ℕ, List, ◌++◌, Result, Ok, Err, length, take, drop, sym, ap, ◌∙◌, append_assoc}
 use Rattle.std.specs.Prelude.{IsErr}
 use Rattle.std.proofs.lemmas.Bool.{false≢true}
 use Rattle.std.proofs.Math.Seq.{take-append_seam, take-append-add}
 use Rattle.std.proofs.lemmas.List.{append_cancel_left, take-append-drop}
 use Rattle.disk_trait.specs.declared.sink.Sink.{Ghosts}
-use Rattle.disk_trait.specs.Causes.{Rose, HasCause}
 use Rattle.disk_trait.specs.Streams.{AddsFront}
 use Rattle.disk_trait.proofs.Calls.{rose_within}
 use Rattle.grid_shell.specs.Printing.{Passes}
+use Rattle.grid_shell.proofs.Counting.{not_lower, same_count}
 
 -- a front of a text is one of a longer text
 pub adds_longer : (old new t u : List ℕ) → AddsFront old new t → AddsFront old new (t ++ u)
@@ -31,12 +31,6 @@ adds_next old now new t l a e b =
           ∙ append_assoc old s (take b.count l)
           ∙ ap (λ (xs : List ℕ). old ++ xs) (sym (take-append-add s l b.count) ∙ ap (take (length s + b.count)) whole);
     }
-
-not_lower : (a b c : ℕ) → a ≤ b → b ≤ c → a ≤ c
-not_lower a b c p q = omega (arith, p, q)
-
-same_count : (a : ℕ) → a ≤ a
-same_count a = omega arith
 
 module _ {O E : Type 0} {g : Ghosts O} where
   -- a piece more stands in the buffer

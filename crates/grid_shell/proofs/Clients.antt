@@ -19,14 +19,14 @@ pub is_a_point : {K : ℕ} (l : Line K) → IsTrue (is_taken l) → IsTrue (is_p
 unfolding is_taken
 is_a_point l taken = second (l.client == 1) (is_point l.request) taken
 
-untrue : {K : ℕ} (r : Request K) → IsTrue (is_point r) → is_point r ≡ false → ⊥
-untrue r point e = true≢false (sym point ∙ e)
+point_not_false : {K : ℕ} (r : Request K) → IsTrue (is_point r) → is_point r ≡ false → ⊥
+point_not_false r point e = true≢false (sym point ∙ e)
 
 -- so it is no other request
 pub no_other : {K : ℕ} (l : Line K) → IsTrue (is_taken l)
     → ((k : Key K) × l.request ≡ ask.Remove k) ⊎ ((q : Query K) × l.request ≡ ask.List q) ⊎ ((q : Query K) × l.request ≡ ask.Count q) ⊎ (l.request ≡ ask.Stat) ⊎ (l.request ≡ ask.Checkpoint) → ⊥
-no_other l taken (inl e) = untrue l.request (is_a_point l taken) (ap is_point e.1)
-no_other l taken (inr (inl e)) = untrue l.request (is_a_point l taken) (ap is_point e.1)
-no_other l taken (inr (inr (inl e))) = untrue l.request (is_a_point l taken) (ap is_point e.1)
-no_other l taken (inr (inr (inr (inl e)))) = untrue l.request (is_a_point l taken) (ap is_point e)
-no_other l taken (inr (inr (inr (inr e)))) = untrue l.request (is_a_point l taken) (ap is_point e)
+no_other l taken (inl e) = point_not_false l.request (is_a_point l taken) (ap is_point e.1)
+no_other l taken (inr (inl e)) = point_not_false l.request (is_a_point l taken) (ap is_point e.1)
+no_other l taken (inr (inr (inl e))) = point_not_false l.request (is_a_point l taken) (ap is_point e.1)
+no_other l taken (inr (inr (inr (inl e)))) = point_not_false l.request (is_a_point l taken) (ap is_point e)
+no_other l taken (inr (inr (inr (inr e)))) = point_not_false l.request (is_a_point l taken) (ap is_point e)

@@ -15,31 +15,31 @@ more_than_longest : longest < most
 unfolding longest
 more_than_longest = omega arith
 
-whole : (all : List ℕ) → length all ≤ longest → take most all ≡ all
-whole all le = take_all most all (omega (arith, le, more_than_longest))
+take-most : (all : List ℕ) → length all ≤ longest → take most all ≡ all
+take-most all le = take_all most all (omega (arith, le, more_than_longest))
 
-long_front : (all : List ℕ) → longest < length all → longest < length (take most all)
-long_front all lt = omega (arith, lt, more_than_longest, length-take most all)
+longest-take : (all : List ℕ) → longest < length all → longest < length (take most all)
+longest-take all lt = omega (arith, lt, more_than_longest, length-take most all)
 
 -- what is read says all that the input says
-pub lines_read : (K : ℕ) (all : List ℕ) → lines K (take most all) ≡ lines K all
+pub lines-take : (K : ℕ) (all : List ℕ) → lines K (take most all) ≡ lines K all
 unfolding lines
-lines_read K all = by (nat_lt longest (length all)) refl
+lines-take K all = cases (nat_lt longest (length all)) refl
   where
-    by : (t : Bool) → nat_lt longest (length all) ≡ t
+    cases : (t : Bool) → nat_lt longest (length all) ≡ t
         → (if nat_lt longest (length (take most all)) then Err 0 else asked 1 1 (meanings K (take most all))) ≡ (if nat_lt longest (length all) then Err 0 else asked 1 1 (meanings K all))
-    by true e =
-        ap (λ t. if t then Err 0 else asked 1 1 (meanings K (take most all))) (lt-ltb longest (length (take most all)) (long_front all (ltb-true longest (length all) e)))
+    cases true e =
+        ap (λ t. if t then Err 0 else asked 1 1 (meanings K (take most all))) (lt-ltb longest (length (take most all)) (longest-take all (ltb-true longest (length all) e)))
         ∙ sym (ap (λ t. if t then Err 0 else asked 1 1 (meanings K all)) e)
-    by false e =
+    cases false e =
         let le : length all ≤ longest = ltb-false longest (length all) e in
-        ap (λ bytes. if nat_lt longest (length bytes) then Err 0 else asked 1 1 (meanings K bytes)) (whole all le)
+        ap (λ bytes. if nat_lt longest (length bytes) then Err 0 else asked 1 1 (meanings K bytes)) (take-most all le)
 
-pub script_read : {K : ℕ} (all : List ℕ) (ls : List (Line K)) → IsScript (take most all) ls → IsScript all ls
-script_read {K} all ls s = record { read = sym (lines_read K all) ∙ s.read; taken = s.taken }
+pub script-take : {K : ℕ} (all : List ℕ) (ls : List (Line K)) → IsScript (take most all) ls → IsScript all ls
+script-take {K} all ls s = record { read = sym (lines-take K all) ∙ s.read; taken = s.taken }
 
-pub fault_read : (K : ℕ) (all : List ℕ) (n : ℕ) → IsFault K (take most all) n → IsFault K all n
-fault_read K all n f = record {
-  long = λ lt. f.long (long_front all lt);
-  short = λ le. subst (λ bytes. IsFirstRefused K bytes n) (whole all le) (f.short (subst (λ bytes. length bytes ≤ longest) (sym (whole all le)) le));
+pub fault-take : (K : ℕ) (all : List ℕ) (n : ℕ) → IsFault K (take most all) n → IsFault K all n
+fault-take K all n f = record {
+  long = λ lt. f.long (longest-take all lt);
+  short = λ le. subst (λ bytes. IsFirstRefused K bytes n) (take-most all le) (f.short (subst (λ bytes. length bytes ≤ longest) (sym (take-most all le)) le));
 }

@@ -1,5 +1,5 @@
 -- A run of a file in a bay: what the bay makes of a run over the file's disk.
-use Rattle.std.proofs.Common.{◌≡◌, ◌≢◌, ◌≤◌, ◌<◌, ◌⊎◌, ◌∙◌, inl, inr, ℕ, List, IsTrue, max, refl, sym, ap, subst, arith}
+use Rattle.std.proofs.Common.{◌≡◌, ◌≢◌, ◌⊎◌, ◌∙◌, inl, inr, ℕ, List, IsTrue, max, refl, sym, ap, subst, arith}
 use Rattle.std.specs.Prelude.{◌∷◌, [], IsSomeAnd}
 use Rattle.grid_types.specs.declared.request.Line.{Line}
 use Rattle.grid_types.specs.declared.request.Reply.{Reply}
@@ -9,15 +9,14 @@ use Rattle.disk_trait.specs.declared.sink.Sink.{Ghosts as Sinks}
 use Rattle.disk_trait.specs.declared.source.Source.{Ghosts as Sources}
 use Rattle.disk_trait.specs.Bay.{Absent, Home, SameElsewhere}
 use Rattle.disk_trait.specs.Causes.{Rose}
-use Rattle.grid_script.specs.Taken.{IsScript, IsFault}
+use Rattle.grid_script.specs.Taken.{IsScript}
 use Rattle.grid_shell.specs.declared.ending.Ending.{Ending}
-use Rattle.grid_shell.specs.declared.ending.Ending.TheVariants.{BadScript, Device}
 use Rattle.grid_shell.specs.Statuses.{greatest_status, status_with_fault, IsSilent}
 use Rattle.grid_shell.specs.Endings.{status_of}
 use Rattle.grid_shell.specs.Standing.{bucket_capacity}
 use Rattle.grid_shell.specs.Runs.{IsAnswered, IsPrinted, HasFailed, OneRose}
-use Rattle.grid_shell.specs.Ran.{Run, Asks, Answered, Shows, SomeFailed, SomeHigher, Served, JudgesScript, NamesFault, RunsDisk, RunsFile, LeavesFiles, TakesBack, FailsBack, IsThere, run_over_disk, run_in_bay, image_at}
-use Rattle.grid_shell.proofs.Layers.{five_or_three, never_rose, no_lower}
+use Rattle.grid_shell.specs.Ran.{Run, Asks, Answered, SomeFailed, SomeHigher, Served, JudgesScript, RunsDisk, RunsFile, TakesBack, FailsBack, IsThere, run_over_disk, run_in_bay, image_at}
+use Rattle.grid_shell.proofs.Counting.{five_or_three, never_rose, rose_behind, not_higher}
 use Rattle.grid_shell.proofs.Serving.{served_silent}
 use Rattle.grid_shell.proofs.StatusLaws.{greatest_is_line, with_fault-faulty, with_fault-silent, with_fault-line, with_fault-high}
 
@@ -27,10 +26,6 @@ elsewhere_then b name bay0 bay1 bay2 r s = record {
   tells = s.tells ∙ r.tells;
   others = λ told other apart. s.others (r.tells ∙ told) other apart ∙ r.others told other apart;
 }
-
--- a count that rose behind one that did not fall, and before one that stayed
-rose_behind : (a b c : ℕ) → b ≡ a → Rose b c → Rose a c
-rose_behind a b c same rose = omega (arith, same, rose)
 
 module _ {B D S O : Type 0} (b : Bays B D) (d : Disks D) (s : Sources S) (o : Sinks O) (name : List ℕ) (bay0 bay1 bay2 : B) (disk : D) (in0 in1 : S) (out0 out1 : O) (steady : b.fault_count bay1 ≡ b.fault_count bay0)
     (failed : HasFailed (d.read_count disk) (d.write_count disk) → Rose (b.fault_count bay1) (b.fault_count bay2)) where
@@ -92,7 +87,7 @@ module _ {B D S O : Type 0} (b : Bays B D) (d : Disks D) (s : Sources S) (o : Si
         where
           higher : SomeHigher (in_bay (status_of e)).counts → SomeHigher (over (status_of e)).counts
           higher (inl none) = absurd (elim none [ inl reads ↦ reads refl | inr writes ↦ writes refl ])
-          higher (inr (inl bay)) = absurd (no_lower (b.fault_count bay0) (b.fault_count bay2) (k.steady ∙ steady) bay)
+          higher (inr (inl bay)) = absurd (not_higher (b.fault_count bay0) (b.fault_count bay2) (k.steady ∙ steady) bay)
           higher (inr (inr rest)) = inr (inr rest)
 
       served_failed : FailsBack b (bay1, bay2) e now → Served (IsTrue (b.tells bay0)) (IsThere b bay0 name) Asked (in_bay (status_of now))

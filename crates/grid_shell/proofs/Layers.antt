@@ -1,23 +1,21 @@
 -- A run at each layer: of lines in hand, of the input over a disk, and of a file in a bay.
-use Rattle.std.proofs.Common.{◌≡◌, ◌≢◌, ◌≤◌, ◌<◌, ◌⊎◌, ◌∙◌, ◌∷◌, ◌++◌, [], inl, inr, ℕ, Bool, List, IsTrue, Result, Ok, refl, sym, ap, subst, arith}
+use Rattle.std.proofs.Common.{◌≡◌, ◌≢◌, ◌∙◌, ◌++◌, inl, inr, ℕ, List, IsTrue, Result, Ok, refl, sym, ap, subst, arith}
 use Rattle.grid_types.specs.declared.request.Line.{Line}
 use Rattle.grid_model.specs.Script.{lines}
 use Rattle.grid_script.specs.Taken.{IsScript, IsFault}
 use Rattle.grid_script.proofs.Taking.{script-sound}
-use Rattle.disk_trait.specs.declared.bay.Bay.{Ghosts as Bays}
 use Rattle.disk_trait.specs.declared.disk.Disk.{Ghosts as Disks}
 use Rattle.disk_trait.specs.declared.sink.Sink.{Ghosts as Sinks}
 use Rattle.disk_trait.specs.declared.source.Source.{Ghosts as Sources}
-use Rattle.disk_trait.specs.Bay.{Absent, Home, SameElsewhere}
 use Rattle.disk_trait.specs.Causes.{Rose}
 use Rattle.grid_shell.specs.declared.ending.Ending.{Ending}
 use Rattle.grid_shell.specs.declared.ending.Ending.TheVariants.{Done, BadWords, BadScript, Damaged, Device, Memory, Refused, Unsure}
 use Rattle.grid_shell.specs.Statuses.{IsSilent, error_text}
-use Rattle.grid_shell.specs.Endings.{status_of, line_of}
-use Rattle.grid_shell.specs.Runs.{IsPrinted, HasFailed, OneRose, OneHigher, HasFault, most_read, LostAtMost, IsTold}
-use Rattle.grid_shell.specs.Ran.{Run, Counts, Asks, Answered, Shows, SomeFailed, SomeHigher, Served, JudgesScript, NamesFault, RunsDisk, RunsFile, LeavesFiles, TakesBack, FailsBack, IsThere, run_of_lines, run_over_disk, run_in_bay, image_at}
+use Rattle.grid_shell.specs.Endings.{status_of, named_line}
+use Rattle.grid_shell.specs.Runs.{HasFailed, HasFault, most_read, LostAtMost, IsTold}
+use Rattle.grid_shell.specs.Ran.{Run, Asks, SomeFailed, SomeHigher, Served, NamesFault, RunsDisk, run_of_lines, run_over_disk}
+use Rattle.grid_shell.proofs.Counting.{five_or_three, never_rose, not_higher}
 use Rattle.grid_shell.proofs.Serving.{served_silent}
-use Rattle.grid_shell.proofs.StatusLaws.{with_fault-faulty, with_fault-silent, with_fault-cases}
 
 -- an ending of status 3 names a line
 pub names_line : (e : Ending) → status_of e ≡ 3 → (n : ℕ) × (e ≡ BadScript n)
@@ -30,16 +28,12 @@ names_line Memory h = absurd (omega (arith, h))
 names_line Refused h = absurd (omega (arith, h))
 names_line Unsure h = absurd (omega (arith, h))
 
--- an ending of another status names none
-pub names_none : (left : List ℕ) (e : Ending) → status_of e ≢ 3 → NamesFault left e
-names_none left e other n is = absurd (other (ap status_of is))
-
 -- what was told of an ending was told of its status
-pub told_ending : (left : List ℕ) (e : Ending) (status : ℕ) (had has : List ℕ) → status ≡ status_of e → NamesFault left e → has ≡ had ++ error_text (status_of e) (line_of e) → IsTold (IsFault 2 left) status had has
+pub told_ending : (left : List ℕ) (e : Ending) (status : ℕ) (had has : List ℕ) → status ≡ status_of e → NamesFault left e → has ≡ had ++ error_text (status_of e) (named_line e) → IsTold (IsFault 2 left) status had has
 told_ending left e status had has is fault text = record {
-  line = line_of e;
-  named = λ three. let n = names_line e (sym is ∙ three) in subst (IsFault 2 left) (sym (ap line_of n.1)) (fault n.0 n.1);
-  told = text ∙ ap (λ (s : ℕ). had ++ error_text s (line_of e)) (sym is);
+  line = named_line e;
+  named = λ three. let n = names_line e (sym is ∙ three) in subst (IsFault 2 left) (sym (ap named_line n.1)) (fault n.0 n.1);
+  told = text ∙ ap (λ (s : ℕ). had ++ error_text s (named_line e)) (sym is);
 }
 
 -- bytes ask one list of lines
@@ -48,20 +42,6 @@ one_script bytes these those a b = ok_value (lines 2 bytes) a.read b.read
   where
     ok_value : (r : Result (List (Line 2)) ℕ) → r ≡ Ok these → r ≡ Ok those → these ≡ those
     ok_value r p q = cc
-
--- a number is not 5 and 3
-pub five_or_three : (n : ℕ) → n ≡ 5 → n ≡ 3 → ⊥
-five_or_three n five three = omega (arith, five, three)
-
--- a count that stands at 0 has not risen
-pub never_rose : Rose 0 0 → ⊥
-never_rose rose = omega (arith, rose)
-
-none_lower : 0 < 0 → ⊥
-none_lower lt = omega (arith, lt)
-
-pub no_lower : (a b : ℕ) → b ≡ a → a < b → ⊥
-no_lower a b e lt = omega (arith, e, lt)
 
 module _ {D S O : Type 0} (Told : Type 0) (d : Disks D) (s : Sources S) (o : Sinks O) (disk : D) (in0 in1 : S) (out : O) where
   -- a run whose script was not read
@@ -113,7 +93,7 @@ module _ {D S O : Type 0} (Told New : Type 0) (d : Disks D) (s : Sources S) (o :
   higher_in_hand : SomeHigher over_disk.counts → SomeHigher in_hand.counts
   higher_in_hand (inl failed) = inl failed
   higher_in_hand (inr (inl bay)) = inr (inl bay)
-  higher_in_hand (inr (inr (inl source))) = absurd (no_lower (s.fault_count in0) (s.fault_count in1) steady source)
+  higher_in_hand (inr (inr (inl source))) = absurd (not_higher (s.fault_count in0) (s.fault_count in1) steady source)
   higher_in_hand (inr (inr (inr sink))) = inr (inr (inr sink))
 
   -- the lines that the input asks are those in hand

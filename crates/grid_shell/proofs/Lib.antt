@@ -1,6 +1,7 @@
 pub mod Adding
 pub mod Buckets
 pub mod Clients
+pub mod Counting
 pub mod Errors
 pub mod Fronts
 pub mod InBay

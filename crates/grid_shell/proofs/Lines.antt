@@ -29,21 +29,21 @@ text_more : {K : ℕ} (rs : List (Reply K)) (i : ℕ) (d : Reply K) → i < leng
 text_more rs i d lt = ap (λ qs. title rs ++ flat_map reply_text qs) (take_more rs i d lt) ∙ sym (flat_map_more reply_text (title rs) (take i rs) (get_or rs i d))
 
 -- the lines of all replies, each with its end
-all_ended : {K : ℕ} (rs : List (Reply K)) → flat_map ended (flat_map reply_lines rs) ≡ flat_map reply_text rs
-all_ended [] = refl
-all_ended (r ∷ rs) = flat_map-append ended (reply_lines r) (flat_map reply_lines rs) ∙ ap (λ (t : List ℕ). reply_text r ++ t) (all_ended rs)
+flat_map-ended : {K : ℕ} (rs : List (Reply K)) → flat_map ended (flat_map reply_lines rs) ≡ flat_map reply_text rs
+flat_map-ended [] = refl
+flat_map-ended (r ∷ rs) = flat_map-append ended (reply_lines r) (flat_map reply_lines rs) ∙ ap (λ (t : List ℕ). reply_text r ++ t) (flat_map-ended rs)
 
-grouped : {K : ℕ} (rs : List (Reply K)) → flat_map ended (flat_map group_lines (group_of rs)) ≡ title rs ++ flat_map reply_text rs
-grouped [] = refl
-grouped (r ∷ rs) =
+flat_map-group_of : {K : ℕ} (rs : List (Reply K)) → flat_map ended (flat_map group_lines (group_of rs)) ≡ title rs ++ flat_map reply_text rs
+flat_map-group_of [] = refl
+flat_map-group_of (r ∷ rs) =
     ap (flat_map ended) (append-nil (numbered (codes "client ") 1 ∷ flat_map reply_lines (r ∷ rs)))
-    ∙ ap (λ (t : List ℕ). ended (numbered (codes "client ") 1) ++ t) (all_ended (r ∷ rs))
+    ∙ ap (λ (t : List ℕ). ended (numbered (codes "client ") 1) ++ t) (flat_map-ended (r ∷ rs))
 
 pub all_text : {K : ℕ} (rs : List (Reply K)) (n front : ℕ) → length rs ≡ n → text_to rs n ++ front_line front ≡ text (group_of rs) front
 unfolding text text_lines front_line
 all_text rs n front e =
     ap (λ qs. (title rs ++ flat_map reply_text qs) ++ ended (numbered (codes "front ") front)) (take_all n rs (omega (arith, e)))
-    ∙ (λ i. sym (grouped rs) i ++ sym (append-nil (ended (numbered (codes "front ") front))) i)
+    ∙ (λ i. sym (flat_map-group_of rs) i ++ sym (append-nil (ended (numbered (codes "front ") front))) i)
     ∙ sym (flat_map-append ended (flat_map group_lines (group_of rs)) (numbered (codes "front ") front ∷ []))
 
 -- the line of a row, with its end

@@ -1,12 +1,11 @@
 -- The replies of a lone caller, from what its calls answer.
-use Rattle.std.proofs.Common.{◌≡◌, ◌≢◌, ◌⊎◌, ◌<◌, ◌≤◌, ◌+◌, ℕ, true, false, List, Option, Result, Ok, Err, refl, sym, ap, subst, ◌∙◌, inl, inr, arith}
-use Rattle.std.specs.Prelude.{IfOk, IfErr, IsErrOf}
+use Rattle.std.proofs.Common.{◌≡◌, ◌≢◌, ◌<◌, ◌≤◌, ◌+◌, ℕ, true, false, List, Option, Result, Ok, Err, sym, ap, subst, ◌∙◌, inl, inr, arith}
+use Rattle.std.specs.Prelude.{IfOk, IfErr}
 use Rattle.grid_types.specs.declared.answer.Answer.{Answer}
 use Rattle.grid_types.specs.declared.key.Key.{Key}
 use Rattle.grid_types.specs.declared.refusal.Refusal.{Refusal}
 use Rattle.grid_types.specs.declared.refusal.Refusal.TheVariants.{ReadFault, WriteFault, Damaged, NoCut, Worn}
 use Rattle.grid_types.specs.declared.layout_change.LayoutChange.TheVariants as note
-use Rattle.grid_types.specs.declared.request.Request.{Request}
 use Rattle.grid_types.specs.declared.request.Request.TheVariants as ask
 use Rattle.grid_types.specs.declared.request.Reply.{Reply}
 use Rattle.grid_types.specs.declared.request.Reply.TheVariants as reply
@@ -19,17 +18,17 @@ use Rattle.grid_model.specs.Lone.{State, lone, done, refused}
 use Rattle.disk_trait.specs.declared.disk.Disk.{Ghosts}
 use Rattle.disk_trait.specs.Disk.{Agrees}
 use Rattle.disk_trait.specs.Calls.{OnlyReads, Changes, HasCauses}
-use Rattle.disk_trait.proofs.Calls.{changes_read, changes_wider, causes_ok, causes_on, causes_wider}
+use Rattle.disk_trait.proofs.Calls.{changes_read, changes_wider, causes_ok, causes_on}
 use Rattle.disk_trait.proofs.Pages.{agrees_same}
 use Rattle.grid_shell.specs.declared.lone.Lone.{Lone}
 use Rattle.grid_shell.specs.Standing.{undivided, worn_at, takes, Answers, HoldsPut, StandsFor, StandsForLone, TellsTable}
 use Rattle.grid_shell.specs.Calls.{RefusesGet, RefusesPut, PutsInto, RefusesPutInto}
 use Rattle.grid_shell.specs.Replies.{MayRefusePut, IsReplyTo, Judges, TellsLone, IsDiskFault, LeavesLone, RepliesTo}
-use Rattle.grid_shell.proofs.Undivided.{first_entry, inside_all, put_done, put_refused, done_table, done_front, done_layout, done_used, done_rooted, done_kept}
+use Rattle.grid_shell.proofs.Undivided.{first_entry, records_inside-all, put_done, put_refused, done_table, done_front, done_layout, done_used, done_rooted, done_kept}
 
 -- all records of the file lie in the one box
 pub records_inside-whole : (K C : ℕ) (image : List ℕ) (t : Table) → StandsFor K C image t → records_inside t (whole K) ≡ t
-records_inside-whole K C image t s = subst (λ es. records_inside es (whole K) ≡ es) s.records (inside_all s.bucket.rows.items s.has.spelled.lawful.keys)
+records_inside-whole K C image t s = subst (λ es. records_inside es (whole K) ≡ es) s.records (records_inside-all s.bucket.rows.items s.has.spelled.lawful.keys)
 
 module _ {K : ℕ} (C : ℕ) (s : State K) where
   got_reply : (k : Key K) (a : Answer (Option (List ℕ))) → a.at ≡ s.front → a.value ≡ get s.table k.numbers → reply.Got a ≡ (lone (undivided K C) s (ask.Get k)).reply
@@ -164,7 +163,7 @@ module _ {D : Type 0} {g : Ghosts D} {K : ℕ} (old new : Lone D g) (r : Record 
       → RepliesTo g (ask.Put r) old new p
   put_refusal (Ok q) is none fault table changes kept causes front capacity = record {
     kind = subst (IsReplyTo (ask.Put r)) (sym is) (may_refuse causes.no_other);
-    judged = subst (Judges old.capacity new.page (ask.Put r)) (sym is) (says causes.no_other);
+    judged = subst (Judges old.capacity new.page (ask.Put r)) (sym is) (judged_put causes.no_other);
     told = λ s tells. let full = table_full s tells in is ∙ ap reply.Refused full.0 ∙ refused_reply old.capacity s (g.seen old.disk) old.front r (is_key s tells full.0) tells.stands full.1;
     stands = λ s tells. let full = table_full s tells in stands_after_refusal old.capacity s (g.seen old.disk) old.front r (is_key s tells full.0) tells.stands (g.seen new.disk) new.front full.1 ((kept none.1).seen tells.told) front;
     front = omega (arith, front);
@@ -178,10 +177,10 @@ module _ {D : Type 0} {g : Ghosts D} {K : ℕ} (old new : Lone D g) (r : Record 
       may_refuse (inr (inr (inr (inl full)))) = inr (inl full.0)
       may_refuse (inr (inr (inr (inr worn)))) = inr (inr (old.front, worn.0))
 
-      says : RefusesPut K old.capacity new.page r.key.numbers old.front e → Judges old.capacity new.page (ask.Put r) (reply.Refused e)
-      says (inl read) = absurd (none.0 read)
-      says (inr (inl write)) = absurd (none.1 write)
-      says (inr (inr page)) = (old.front, page)
+      judged_put : RefusesPut K old.capacity new.page r.key.numbers old.front e → Judges old.capacity new.page (ask.Put r) (reply.Refused e)
+      judged_put (inl read) = absurd (none.0 read)
+      judged_put (inr (inl write)) = absurd (none.1 write)
+      judged_put (inr (inr page)) = (old.front, page)
 
       full_or_worn : (s : State K) → TellsLone g 1 old s → RefusesPutInto old.capacity s.table r.key.numbers old.front e → (e ≡ NoCut 1 0) × (takes old.capacity s.table r.key.numbers ≡ false)
       full_or_worn s tells (inl read) = absurd (none.0 read)
@@ -192,18 +191,18 @@ module _ {D : Type 0} {g : Ghosts D} {K : ℕ} (old new : Lone D g) (r : Record 
       table_full : (s : State K) → TellsLone g 1 old s → (e ≡ NoCut 1 0) × (takes old.capacity s.table r.key.numbers ≡ false)
       table_full s tells = full_or_worn s tells (table s.table (tells_table old new 1 s tells))
 
-      differ : NoCut 1 0 ≡ Damaged 0 → ⊥
-      differ same = cc
+      cut_not_damaged : NoCut 1 0 ≡ Damaged 0 → ⊥
+      cut_not_damaged same = cc
 
-      other : (n : ℕ) → NoCut 1 0 ≡ Worn n → ⊥
-      other n same = cc
+      cut_not_worn : (n : ℕ) → NoCut 1 0 ≡ Worn n → ⊥
+      cut_not_worn n same = cc
 
       key_of_page : e ≡ NoCut 1 0 → RefusesPut K old.capacity new.page r.key.numbers old.front e → IsKey K r.key.numbers
       key_of_page cut (inl read) = absurd (none.0 read)
       key_of_page cut (inr (inl write)) = absurd (none.1 write)
-      key_of_page cut (inr (inr (inl damaged))) = absurd (differ (sym cut ∙ damaged.0))
+      key_of_page cut (inr (inr (inl damaged))) = absurd (cut_not_damaged (sym cut ∙ damaged.0))
       key_of_page cut (inr (inr (inr (inl full)))) = full.1.is_key
-      key_of_page cut (inr (inr (inr (inr worn)))) = absurd (other old.front (sym cut ∙ worn.0))
+      key_of_page cut (inr (inr (inr (inr worn)))) = absurd (cut_not_worn old.front (sym cut ∙ worn.0))
 
       is_key : (s : State K) → TellsLone g 1 old s → e ≡ NoCut 1 0 → IsKey K r.key.numbers
       is_key s tells cut = key_of_page cut causes.no_other

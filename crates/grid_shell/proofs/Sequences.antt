@@ -1,5 +1,5 @@
 -- One line more of a script.
-use Rattle.std.proofs.Common.{◌≡◌, ◌≢◌, inl, inr, ◌<◌, ◌≤◌, ◌+◌, ◌++◌, ◌∷◌, [], ℕ, List, IsTrue, Ok, Err, length, take, get_or, refl, sym, ap, subst, ◌∙◌, arith}
+use Rattle.std.proofs.Common.{◌≡◌, inl, inr, ◌<◌, ◌≤◌, ◌+◌, ◌++◌, ◌∷◌, [], ℕ, List, IsTrue, Ok, Err, length, take, get_or, refl, sym, ap, subst, ◌∙◌, arith}
 use Rattle.std.proofs.lemmas.List.{take_more, take_all, map_more}
 use Rattle.grid_types.specs.declared.refusal.Refusal.{Refusal}
 use Rattle.grid_types.specs.declared.refusal.Refusal.TheVariants.{ReadFault, WriteFault}
@@ -13,13 +13,13 @@ use Rattle.grid_model.proofs.AnswerLaws.{answers-push, afterwards-push}
 use Rattle.disk_trait.specs.declared.disk.Disk.{Ghosts}
 use Rattle.disk_trait.specs.Disk.{Agrees}
 use Rattle.disk_trait.specs.Calls.{Changes, HasCauses}
-use Rattle.disk_trait.specs.Causes.{Rose}
 use Rattle.disk_trait.proofs.Calls.{changes_none, changes_then, causes_ok, causes_on, causes_after}
 use Rattle.disk_trait.proofs.Pages.{agrees_same, agrees_then}
 use Rattle.grid_shell.specs.declared.lone.Lone.{Lone}
 use Rattle.grid_shell.specs.Standing.{undivided, worn_at, StandsForLone}
 use Rattle.grid_shell.specs.Replies.{IsReplyTo, AreRepliesTo, TellsLone, IsDiskFault, RepliesTo, RepliesToAll}
 use Rattle.grid_shell.specs.Runs.{HasFailed}
+use Rattle.grid_shell.proofs.Counting.{risen}
 use Rattle.grid_shell.proofs.Errors.{error_of}
 
 module _ {K : ℕ} (shape : Shape) (s : State K) (ls : List (Line K)) where
@@ -132,10 +132,6 @@ module _ {D : Type 0} {g : Ghosts D} {K : ℕ} (asked : List (Line K)) (old : Lo
         causes = causes_after so_far.changes.reads so_far.changes.writes (causes_on reply.leaves.causes);
       };
     }
-
--- a count that rose is not 0
-pub risen : (before now : ℕ) → Rose before now → now ≢ 0
-risen before now rose zero = omega (arith, rose, zero)
 
 -- where a request ended by a fault, the disk has counted a failure
 pub failed-fault : {D T : Type 0} {g : Ghosts D} {old new : D} (e : Refusal) → HasCauses {T = T} g IsDiskFault old new (Err e) → HasFailed (g.read_count new) (g.write_count new)

@@ -1,5 +1,5 @@
 -- Lines that were answered and printed, or ended before.
-use Rattle.std.proofs.Common.{◌≡◌, ◌≤◌, ◌<◌, ◌++◌, ◌⊎◌, ◌∙◌, inl, inr, ℕ, List, IsTrue, Ok, length, refl, sym, ap, subst, arith}
+use Rattle.std.proofs.Common.{◌≡◌, ◌≤◌, ◌++◌, ◌⊎◌, ◌∙◌, inl, inr, ℕ, List, IsTrue, Ok, length, refl, sym, ap, subst}
 use Rattle.std.proofs.lemmas.List.{append-nil}
 use Rattle.grid_types.specs.declared.request.Line.{Line}
 use Rattle.grid_types.specs.declared.request.Reply.{Reply}
@@ -15,6 +15,7 @@ use Rattle.grid_shell.specs.Standing.{bucket_capacity, begun}
 use Rattle.grid_shell.specs.Replies.{group_of, TellsLone, RepliesToAll}
 use Rattle.grid_shell.specs.Runs.{lone_text, IsAnswered, HasFailed}
 use Rattle.grid_shell.specs.Ran.{Run, Asks, Answered, SomeFailed, SomeHigher, Served, IsNewStore, run_of_lines}
+use Rattle.grid_shell.proofs.Counting.{never_higher, not_higher}
 use Rattle.grid_shell.proofs.Sessions.{session_text, session_answered, below_worn}
 use Rattle.grid_shell.proofs.StatusLaws.{greatest_is_line, with_fault-faulty, with_fault-line, silent-no_answer}
 
@@ -39,12 +40,6 @@ module _ (Told There : Type 0) (Asked : List (Line 2) → Type 0) (r : Run) wher
       ended asked a (inl three) = absurd (script asked a three)
       ended asked a (inr (inl five)) = failed asked (device five)
       ended asked a (inr (inr six)) = inl six
-
-no_lower : (a b : ℕ) → b ≡ a → a < b → ⊥
-no_lower a b e lt = omega (arith, e, lt)
-
-none_lower : 0 < 0 → ⊥
-none_lower lt = omega (arith, lt)
 
 -- lines that were answered, and printed or in part
 module _ {D O : Type 0} (g : Disks D) (o : Sinks O) (old now : Lone D g) (asked : List (Line 2)) (replies : List (Reply 2)) (before after : O) where
@@ -85,9 +80,9 @@ module _ {D O : Type 0} (g : Disks D) (o : Sinks O) (old now : Lone D g) (asked 
 
           none_higher : SomeHigher (run_of_lines g o now.disk (before, after) s).counts → ⊥
           none_higher (inl failed) = well failed
-          none_higher (inr (inl lt)) = none_lower lt
-          none_higher (inr (inr (inl lt))) = none_lower lt
-          none_higher (inr (inr (inr (inl lt)))) = no_lower (o.fault_count before) (o.fault_count after) steady lt
+          none_higher (inr (inl lt)) = never_higher lt
+          none_higher (inr (inr (inl lt))) = never_higher lt
+          none_higher (inr (inr (inr (inl lt)))) = not_higher (o.fault_count before) (o.fault_count after) steady lt
           none_higher (inr (inr (inr (inr none)))) = none
 
       -- a front of it was, since the sink has failed

@@ -15,12 +15,12 @@ status_of Refused = 7
 status_of Unsure = 8
 
 -- the line that an ending names, where it names one
-abbrev pub line_of : Ending → ℕ
-line_of Done = 0
-line_of BadWords = 0
-line_of (BadScript line) = line
-line_of Damaged = 0
-line_of Device = 0
-line_of Memory = 0
-line_of Refused = 0
-line_of Unsure = 0
+abbrev pub named_line : Ending → ℕ
+named_line Done = 0
+named_line BadWords = 0
+named_line (BadScript line) = line
+named_line Damaged = 0
+named_line Device = 0
+named_line Memory = 0
+named_line Refused = 0
+named_line Unsure = 0

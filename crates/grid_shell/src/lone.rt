@@ -171,7 +171,8 @@ impl<D: Disk> Lone<D> {
         requires fits { length bucket.now.rows.items ≤ self.old.capacity }
         ensures page { self.new.page ≡ bucket_spelling (bucket_of bucket.now) }
         ensures written { IsTrue (D.honest self.old.disk)
-            → OnOk result (page_of 0 (D.seen self.new.disk) ≡ bucket_spelling (bucket_of bucket.now)) }
+            → OnOk result
+            (page_of 0 (D.seen self.new.disk) ≡ bucket_spelling (bucket_of bucket.now)) }
         ensures changes { Changes D.Disk (Agrees 0 PAGE_BYTES) self.old.disk self.new.disk }
         ensures cause { HasCause
             (D.write_count self.old.disk) (D.write_count self.new.disk) result }

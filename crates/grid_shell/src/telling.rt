@@ -2,7 +2,7 @@
 ghost use Rattle.std.specs.Prelude.{◌≡◌, ◌≤◌, ◌⊎◌, ◌++◌, IsTrue, OnOk};
 ghost use Rattle.disk_trait.specs.Causes.{HasCause, Rose};
 ghost use Rattle.grid_shell.specs.Statuses.{error_text};
-ghost use Rattle.grid_shell.specs.Endings.{status_of, line_of};
+ghost use Rattle.grid_shell.specs.Endings.{status_of, named_line};
 
 use crate::ending::Ending;
 use disk_trait::{Sink, SinkFailed, put_all};
@@ -23,7 +23,7 @@ fn tell_line<E: Sink>(err: &mut E, line: u64) -> Result<(), SinkFailed>
 /// Tells an ending on the error sink. Most endings have nothing to tell.
 pub fn tell<E: Sink>(err: &mut E, ending: Ending) -> Result<(), SinkFailed>
     ensures told { IsTrue (E.tells err.old) → OnOk result (E.received err.new
-        ≡ E.received err.old ++ error_text (status_of ending) (line_of ending)) }
+        ≡ E.received err.old ++ error_text (status_of ending) (named_line ending)) }
     ensures cause { HasCause (E.fault_count err.old) (E.fault_count err.new) result }
 {
     match ending {
@@ -44,7 +44,7 @@ pub fn finish<E: Sink>(err: &mut E, ending: Ending) -> u8
     ensures told { IsTrue (E.tells err.old)
         → Rose (E.fault_count err.old) (E.fault_count err.new)
         ⊎ (E.received err.new
-        ≡ E.received err.old ++ error_text (status_of ending) (line_of ending)) }
+        ≡ E.received err.old ++ error_text (status_of ending) (named_line ending)) }
 {
     let _ = tell(err, ending);
     ending.status()

@@ -3,8 +3,8 @@ ghost use Rattle.std.specs.Prelude.{◌≡◌, ◌≤◌, ◌+◌, ◌++◌, dro
 ghost use Rattle.page_fields.specs.Fields.{number, bytes_of, replaced};
 ghost use Rattle.grid_types.specs.declared.sizes.TheConstants.{PAGE_BYTES};
 
-use grid_types::PAGE_BYTES;
 use byteorder::{BigEndian, ByteOrder};
+use grid_types::PAGE_BYTES;
 
 /// The number whose two bytes stand at an offset.
 pub fn get_u16(page: &[u8; PAGE_BYTES], at: usize) -> u16

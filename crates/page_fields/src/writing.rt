@@ -5,8 +5,8 @@ ghost use Rattle.page_fields.specs.Fields.{replaced};
 ghost use Rattle.page_fields.specs.Padded.{numbers, padded};
 ghost use Rattle.grid_types.specs.declared.sizes.TheConstants.{KEY_BYTES, MOST_ATTRIBUTES, PAGE_BYTES};
 
-use grid_types::{KEY_BYTES, PAGE_BYTES};
 use crate::{set_u32, set_u64};
+use grid_types::{KEY_BYTES, PAGE_BYTES};
 
 /// Writes these bytes at an offset.
 pub fn put_bytes(page: &mut [u8; PAGE_BYTES], at: usize, bytes: &[u8])

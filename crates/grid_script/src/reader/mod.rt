@@ -36,7 +36,8 @@ impl<const K: usize> Reading<K> {
         ensures client { self.new.client ≡ self.old.client }
         ensures number { self.new.number ≡ self.old.number }
         ensures added { OnOk result (self.new.list.items
-            ≡ self.old.list.items ++ (record { client = self.old.client; request = request.entry }) ∷ []) }
+            ≡ self.old.list.items
+            ++ (record { client = self.old.client; request = request.entry }) ∷ []) }
         ensures fault { (n : ℕ) → IsErrOf result (fault.Line n) → ⊥ }
     {
         let client = self.client;

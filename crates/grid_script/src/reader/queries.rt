@@ -9,7 +9,8 @@ use grid_types::{Key, Query, Side};
 /// The key that a word writes: K numbers with commas between.
 pub fn parse_key<const K: usize>(word: &[u8]) -> Option<Key<K>>
     requires { K ≤ 4 }
-    ensures { result ≡ option_map (λ numbers. record { numbers = numbers }) (parsed_key K word.now) }
+    ensures { result
+        ≡ option_map (λ numbers. record { numbers = numbers }) (parsed_key K word.now) }
 {
     match parts_of(word, 0) {
         Some(numbers) => Some(Key { numbers }),

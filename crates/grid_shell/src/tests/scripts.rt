@@ -63,20 +63,22 @@ fn a_script_may_be_too_long(rt: HostRuntime) -> Result<(), Fail> {
     Ok(())
 }
 
-/// Whether these words are refused, and nothing else is shown.
-fn refuses(rt: &HostRuntime, words: &[&str]) -> Result<bool, Fail> {
-    let shown = show(rt, &Case { words, ..WELL })?;
-    Ok(shown.is(2, NO_TEXT, b"grid: words\n"))
-}
+/// Words that are none of the written forms.
+const WORDS: [&[&str]; 7] = [
+    &[],
+    &["run"],
+    &["run", "f", "extra"],
+    &["make", "f"],
+    &["--help"],
+    &["run", "--help"],
+    &["run", ""],
+];
 
 #[test]
 fn other_words_are_refused(rt: HostRuntime) -> Result<(), Fail> {
-    assert!(rt; refuses(&rt, &[])?);
-    assert!(rt; refuses(&rt, &["run"])?);
-    assert!(rt; refuses(&rt, &["run", "f", "extra"])?);
-    assert!(rt; refuses(&rt, &["make", "f"])?);
-    assert!(rt; refuses(&rt, &["--help"])?);
-    assert!(rt; refuses(&rt, &["run", "--help"])?);
-    assert!(rt; refuses(&rt, &["run", ""])?);
+    for words in WORDS {
+        let shown = show(&rt, &Case { words, ..WELL })?;
+        assert!(rt; shown.is(2, NO_TEXT, b"grid: words\n"));
+    }
     Ok(())
 }

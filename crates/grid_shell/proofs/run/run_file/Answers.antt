@@ -1,4 +1,4 @@
-use Rattle.std.proofs.Common.{◌≡◌, ◌∙◌, inl, inr, refl, sym, ap, arith}
+use Rattle.std.proofs.Common.{◌≡◌, ◌∙◌, refl, sym}
 use Rattle.grid_shell.proofs.InBay.{runs_back, runs_unmade}
 use Rattle.grid_shell.proofs.run.run_file.Goals as goal
 

@@ -1,4 +1,4 @@
-use Rattle.std.proofs.Common.{◌≡◌, ◌<◌, ◌≤◌, length, arith}
+use Rattle.std.proofs.Common.{◌<◌, ◌≤◌, length, arith}
 use Rattle.grid_shell.proofs.Sequences.{replied-none, replied-more, replied-all, replied-failed}
 use Rattle.grid_shell.proofs.session.answer_all.Goals as goal
 

@@ -4,7 +4,7 @@ use Rattle.grid_shell.specs.Standing.{StandsFor}
 use Rattle.grid_shell.specs.Endings.{status_of}
 use Rattle.grid_shell.specs.Ran.{Served, IsNewStore, RunsDisk, run_of_lines}
 use Rattle.grid_shell.proofs.Layers.{runs_unread, runs_unopened, runs_answered}
-use Rattle.grid_shell.proofs.Sequences.{risen}
+use Rattle.grid_shell.proofs.Counting.{risen}
 use Rattle.grid_shell.proofs.Sessions.{stands_for_begun}
 use Rattle.grid_shell.proofs.work.run_disk.Goals as goal
 
