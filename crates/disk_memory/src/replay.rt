@@ -75,7 +75,7 @@ pub fn change_unsynced(events: &[Event], bytes: &[u8], synced: &[u8], image: &mu
     requires synced { length synced.now ≡ length image.old }
     ensures outside { (first : List ℕ)
         → AgreesOutside (contents_after first (map change_of events.now)).dirty
-            image.old image.new }
+        image.old image.new }
     ensures inside { (first : List ℕ) (i : ℕ)
         → IsInside (contents_after first (map change_of events.now)).dirty i
         → IsOther bytes.now synced.now image.new i }
