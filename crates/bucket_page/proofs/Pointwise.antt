@@ -1,5 +1,5 @@
 -- A lawful bucket, said by the indices of its records.
-use Rattle.std.proofs.Common.{◌≡◌, ◌<◌, ◌≤◌, ◌^◌, ◌∙◌, ℕ, List, length, get_or, slice_index, sym, arith}
+use Rattle.std.proofs.Common.{◌<◌, ◌≤◌, ◌^◌, ◌∙◌, ℕ, length, get_or, slice_index, sym}
 use Rattle.grid_types.specs.declared.update.Record.{Record}
 use Rattle.grid_types.specs.Keys.{IsKey}
 use Rattle.grid_types.proofs.Numbers.{contains-within}

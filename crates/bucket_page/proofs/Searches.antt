@@ -1,5 +1,5 @@
 -- What a search tells of the table of the records.
-use Rattle.std.proofs.Common.{◌≡◌, ℕ, List, None, refl, sym, ap, get_or}
+use Rattle.std.proofs.Common.{◌≡◌, ℕ, List, None, sym, get_or}
 use Rattle.grid_types.specs.declared.update.Record.{Record}
 use Rattle.grid_model.specs.Tables.{get, pairs_of}
 use Rattle.grid_model.proofs.TableLaws.{one_key}

@@ -5,7 +5,6 @@ use Rattle.bucket_page.specs.declared.bucket.Bucket.{Bucket}
 use Rattle.grid_model.specs.Spellings.{bucket_spelling}
 use Rattle.bucket_page.specs.Buckets.{bucket_of}
 use Rattle.bucket_page.specs.Lawful.{AreLawfulFields}
-use Rattle.bucket_page.specs.Reading.{BucketAt}
 use Rattle.bucket_page.proofs.Standing.{bucket_there, bucket_read, one_bucket, lawful_as_read, lawful_fields}
 use Rattle.bucket_page.proofs.reading.decode.Goals as goal
 
