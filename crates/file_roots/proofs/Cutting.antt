@@ -17,7 +17,7 @@ use Rattle.file_roots.specs.Damage.{SpellsUpTo, HasAreaUpTo}
 use Rattle.file_roots.proofs.Ascending.{front_of_scale}
 use Rattle.file_roots.proofs.Marking.{named_both, count_both, all_front, all_rest}
 use Rattle.file_roots.proofs.Pieces.{half_piece}
-use Rattle.file_roots.proofs.Spelled.{area_page_scale, area_page_table, few}
+use Rattle.file_roots.proofs.Spelled.{area_spelling-scale, area_spelling-table, few}
 
 -- the scales from an attribute on, as far as the first n pages have them
 abbrev pub cut_from : ℕ → ℕ → List (List ℕ) → List (List ℕ)
@@ -77,7 +77,7 @@ module _ (s : Shape) (image : List ℕ) (r : RootFields) (lawful : IsTrue (is_sh
               let part = take (500 * (n - 2 * (i / 2))) whole in
               let halves : half_of_scale (i % 2) whole ≡ half_of_scale (i % 2) part = half_piece (i % 2) whole (omega arith) short
               ∙ sym (half_piece (i % 2) part (omega arith) (omega (arith, length-take (500 * (n - 2 * (i / 2))) whole, short)) ∙ piece_take 500 (500 * (i % 2)) (500 * (n - 2 * (i / 2))) whole (omega (arith, lt))) in
-              area_page_scale r.number a i first ∙ ap (scale_spelling r.number i) (halves ∙ ap (half_of_scale (i % 2)) (sym (scale (i / 2)))) ∙ sym (area_page_scale r.number less i first)
+              area_spelling-scale r.number a i first ∙ ap (scale_spelling r.number i) (halves ∙ ap (half_of_scale (i % 2)) (sym (scale (i / 2)))) ∙ sym (area_spelling-scale r.number less i first)
           | inr later ↦ elim (cases_eq i 8) [
             | inl eighth ↦
                 let w = within-limits s lawful in
@@ -85,7 +85,7 @@ module _ (s : Shape) (image : List ℕ) (r : RootFields) (lawful : IsTrue (is_sh
                 subst (λ (j : ℕ). area_spelling r.number a j ≡ area_spelling r.number less j) (sym eighth) (ap (list_spelling r.number 8) (sym all))
             | inr other ↦
                 let ninth : 9 ≤ i = omega (arith, later, other) in
-                area_page_table r.number a i ninth ∙ ap (bucket_table_spelling r.number i) (sym (piece_take 1000 (1000 * (i - 9)) (1000 * (n - 9)) a.table (omega (arith, lt, ninth)))) ∙ sym (area_page_table r.number less i ninth)
+                area_spelling-table r.number a i ninth ∙ ap (bucket_table_spelling r.number i) (sym (piece_take 1000 (1000 * (i - 9)) (1000 * (n - 9)) a.table (omega (arith, lt, ninth)))) ∙ sym (area_spelling-table r.number less i ninth)
           ]
         ]);
       }

@@ -16,7 +16,7 @@ use Rattle.grid_model.specs.Images.{area_spelling, half_of_scale}
 use Rattle.file_roots.specs.Damage.{SpellsUpTo}
 use Rattle.file_roots.proofs.Slices.{first_half}
 use Rattle.file_roots.proofs.Pieces.{piece_old, piece_new, half_piece}
-use Rattle.file_roots.proofs.Spelled.{area_page_scale, area_page_table, few, count_on}
+use Rattle.file_roots.proofs.Spelled.{area_spelling-scale, area_spelling-table, few, count_on}
 
 module _ (s : Shape) (image : List ℕ) (r : RootFields) (lawful : IsTrue (is_shape s)) (root : IsRootOn s (header_page r.number) r) where
   -- an attribute that the root does not have has no boundaries
@@ -78,12 +78,12 @@ module _ (s : Shape) (image : List ℕ) (r : RootFields) (lawful : IsTrue (is_sh
                       ∙ ap (half_of_scale (k % 2)) (sym here) ∙ ap (λ (j : ℕ). half_of_scale (k % 2) (scale_of all j)) (sym same)
                   | inr other ↦ ap (half_of_scale (k % 2)) (sym (there (k / 2) other))
                 ] in
-                spelled.pages k below ∙ area_page_scale r.number a k (omega (arith, below, le)) ∙ ap (scale_spelling r.number k) halves ∙ sym (area_page_scale r.number (record { scales = all; parts = a.parts; table = a.table }) k (omega (arith, below, le)))
+                spelled.pages k below ∙ area_spelling-scale r.number a k (omega (arith, below, le)) ∙ ap (scale_spelling r.number k) halves ∙ sym (area_spelling-scale r.number (record { scales = all; parts = a.parts; table = a.table }) k (omega (arith, below, le)))
             | inr not_below ↦
                 let same : n ≡ k = omega (arith, lt, not_below) in
                 let half : half_of_scale (n % 2) (scale_of all at) ≡ xs = ap (half_of_scale (n % 2)) here ∙ half_piece (n % 2) (old ++ xs) (omega arith) long ∙ piece_new 500 from whole old xs lo count in
                 subst (λ (j : ℕ). page_of (table_page s (header_page r.number) j) image ≡ area_spelling r.number (record { scales = all; parts = a.parts; table = a.table }) j) same
-                (page ∙ ap (scale_spelling r.number n) (sym half) ∙ sym (area_page_scale r.number (record { scales = all; parts = a.parts; table = a.table }) n le))
+                (page ∙ ap (scale_spelling r.number n) (sym half) ∙ sym (area_spelling-scale r.number (record { scales = all; parts = a.parts; table = a.table }) n le))
           ];
         }
 
@@ -111,7 +111,7 @@ module _ (s : Shape) (image : List ℕ) (r : RootFields) (lawful : IsTrue (is_sh
                 let same : n ≡ k = omega (arith, lt, not_below) in
                 let half : half_of_scale (n % 2) (scale_of a.scales at) ≡ xs =
                 ap (half_of_scale (n % 2)) empty ∙ half_piece (n % 2) [] (omega arith) (omega arith) ∙ ap (take 500) (drop_of_length-le {A = ℕ} [] {i = 500 * (n % 2)} (omega arith)) ∙ take_all {A = ℕ} 500 [] (omega arith) ∙ sym nothing in
-                subst (λ (j : ℕ). page_of (table_page s (header_page r.number) j) image ≡ area_spelling r.number a j) same (page ∙ ap (scale_spelling r.number n) (sym half) ∙ sym (area_page_scale r.number a n le))
+                subst (λ (j : ℕ). page_of (table_page s (header_page r.number) j) image ≡ area_spelling r.number a j) same (page ∙ ap (scale_spelling r.number n) (sym half) ∙ sym (area_spelling-scale r.number a n le))
           ];
         }
 
@@ -130,7 +130,7 @@ module _ (s : Shape) (image : List ℕ) (r : RootFields) (lawful : IsTrue (is_sh
           named = named;
           distinct = distinct;
           pages = λ k lt. elim (cases_lt k n) [
-            | inl below ↦ spelled.pages k below ∙ area_page_scale r.number a k (omega (arith, below, eighth)) ∙ sym (area_page_scale r.number (record { scales = a.scales; parts = a.parts ++ xs; table = a.table }) k (omega (arith, below, eighth)))
+            | inl below ↦ spelled.pages k below ∙ area_spelling-scale r.number a k (omega (arith, below, eighth)) ∙ sym (area_spelling-scale r.number (record { scales = a.scales; parts = a.parts ++ xs; table = a.table }) k (omega (arith, below, eighth)))
             | inr not_below ↦
                 let same : 8 ≡ k = omega (arith, lt, not_below, eighth) in
                 let now : page_of (table_page s (header_page r.number) 8) image ≡ list_spelling r.number 8 xs = subst (λ (j : ℕ). page_of (table_page s (header_page r.number) j) image ≡ list_spelling r.number j xs) eighth page in
@@ -156,7 +156,7 @@ module _ (s : Shape) (image : List ℕ) (r : RootFields) (lawful : IsTrue (is_sh
           distinct = distinct;
           pages = λ k lt. elim (cases_lt k n) [
             | inl below ↦ elim (cases_lt k 8) [
-              | inl scale ↦ spelled.pages k below ∙ area_page_scale r.number a k scale ∙ sym (area_page_scale r.number new k scale)
+              | inl scale ↦ spelled.pages k below ∙ area_spelling-scale r.number a k scale ∙ sym (area_spelling-scale r.number new k scale)
               | inr behind ↦ elim (cases_eq k 8) [
                 | inl eighth ↦
                     let at_eight : page_of (table_page s (header_page r.number) 8) image ≡ area_spelling r.number a 8 = spelled.pages 8 (omega (arith, eighth, below)) in
@@ -164,12 +164,12 @@ module _ (s : Shape) (image : List ℕ) (r : RootFields) (lawful : IsTrue (is_sh
                 | inr other ↦
                     let table : 9 ≤ k = omega (arith, behind, other) in
                     let part : take 1000 (drop (1000 * (k - 9)) (a.table ++ xs)) ≡ take 1000 (drop (1000 * (k - 9)) a.table) = piece_old 1000 (1000 * (k - 9)) from s.pages a.table xs spelled.numbers count (omega (arith, below, table)) in
-                    spelled.pages k below ∙ area_page_table r.number a k table ∙ ap (bucket_table_spelling r.number k) (sym part) ∙ sym (area_page_table r.number new k table)
+                    spelled.pages k below ∙ area_spelling-table r.number a k table ∙ ap (bucket_table_spelling r.number k) (sym part) ∙ sym (area_spelling-table r.number new k table)
               ]
             ]
             | inr not_below ↦
                 let same : n ≡ k = omega (arith, lt, not_below) in
                 let part : take 1000 (drop from (a.table ++ xs)) ≡ xs = piece_new 1000 from s.pages a.table xs spelled.numbers count in
-                subst (λ (j : ℕ). page_of (table_page s (header_page r.number) j) image ≡ area_spelling r.number new j) same (page ∙ ap (bucket_table_spelling r.number n) (sym part) ∙ sym (area_page_table r.number new n ninth))
+                subst (λ (j : ℕ). page_of (table_page s (header_page r.number) j) image ≡ area_spelling r.number new j) same (page ∙ ap (bucket_table_spelling r.number n) (sym part) ∙ sym (area_spelling-table r.number new n ninth))
           ];
         }

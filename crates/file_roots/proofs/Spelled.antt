@@ -19,12 +19,12 @@ use Rattle.file_roots.proofs.Marking.{all_front, all_rest}
 use Rattle.file_roots.proofs.Pieces.{half_piece, in_piece}
 
 -- the page of a scale, of the list and of the table
-pub area_page_scale : (root : ℕ) (a : Area) (i : ℕ) → i < 8 → area_spelling root a i ≡ scale_spelling root i (half_of_scale (i % 2) (scale_of a.scales (i / 2)))
-area_page_scale root a i lt =
+pub area_spelling-scale : (root : ℕ) (a : Area) (i : ℕ) → i < 8 → area_spelling root a i ≡ scale_spelling root i (half_of_scale (i % 2) (scale_of a.scales (i / 2)))
+area_spelling-scale root a i lt =
     ap (λ t. cond t (scale_spelling root i (half_of_scale (i % 2) (scale_of a.scales (i / 2)))) (cond (eqb i 8) (list_spelling root i a.parts) (bucket_table_spelling root i (take 1000 (drop (1000 * (i - 9)) a.table))))) (lt-ltb i 8 lt)
 
-pub area_page_table : (root : ℕ) (a : Area) (i : ℕ) → 9 ≤ i → area_spelling root a i ≡ bucket_table_spelling root i (take 1000 (drop (1000 * (i - 9)) a.table))
-area_page_table root a i le =
+pub area_spelling-table : (root : ℕ) (a : Area) (i : ℕ) → 9 ≤ i → area_spelling root a i ≡ bucket_table_spelling root i (take 1000 (drop (1000 * (i - 9)) a.table))
+area_spelling-table root a i le =
     ap (λ t. cond t (scale_spelling root i (half_of_scale (i % 2) (scale_of a.scales (i / 2)))) (cond (eqb i 8) (list_spelling root i a.parts) (bucket_table_spelling root i (take 1000 (drop (1000 * (i - 9)) a.table))))) (le-ltb i 8 (omega (arith, le)))
     ∙ ap (λ t. cond t (list_spelling root i a.parts) (bucket_table_spelling root i (take 1000 (drop (1000 * (i - 9)) a.table)))) (ne_eqb i 8 (λ e. absurd (omega (arith, e, le))))
 
@@ -84,7 +84,7 @@ module _ (s : Shape) (image : List ℕ) (r : RootFields) (lawful : IsTrue (is_sh
           index_in_range = omega (arith, le);
           in_range = in_piece (2 ^ 64) 500 (500 * (i % 2)) scale (lit< tt) (scale_fits scale (spelled.scales (i / 2)));
           few = omega (arith, length-take 500 (drop (500 * (i % 2)) scale));
-          bytes = spelled.pages i lt ∙ area_page_scale r.number a i le ∙ ap (scale_spelling r.number i) (half_piece (i % 2) scale (omega arith) short);
+          bytes = spelled.pages i lt ∙ area_spelling-scale r.number a i le ∙ ap (scale_spelling r.number i) (half_piece (i % 2) scale (omega arith) short);
         }
 
     -- as many as there are
@@ -114,7 +114,7 @@ module _ (s : Shape) (image : List ℕ) (r : RootFields) (lawful : IsTrue (is_sh
           index_in_range = omega (arith, inside, area-small s lawful);
           in_range = in_piece (2 ^ 32) 1000 (1000 * (i - 9)) a.table (omega arith) (table_fits s.pages a.table w.few_pages (all_rest (λ p. p < s.pages) a.parts (pages_named a.table) spelled.named));
           few = omega (arith, length-take 1000 (drop (1000 * (i - 9)) a.table));
-          bytes = spelled.pages i lt ∙ area_page_table r.number a i ge;
+          bytes = spelled.pages i lt ∙ area_spelling-table r.number a i ge;
         }
 
     pub table_count : (i : ℕ) → i < n → 9 ≤ i → length (take 1000 (drop (1000 * (i - 9)) a.table)) ≡ min 1000 (s.pages - 1000 * (i - 9))

@@ -1,9 +1,13 @@
 -- The statuses of a run, and what is told of each.
-use Rattle.std.specs.Prelude.{◌≡◌, ◌⊎◌, ◌++◌, ◌==◌, ◌||◌, ℕ, List, [], ◌∷◌, codes, decimal, max, if◌then◌else◌}
+use Rattle.std.specs.Prelude.{◌≡◌, ◌≤◌, ◌⊎◌, ◌++◌, ◌==◌, ◌||◌, ℕ, List, [], ◌∷◌, codes, decimal, max, if◌then◌else◌}
 use Rattle.grid_types.specs.declared.refusal.Refusal.{Refusal}
 use Rattle.grid_types.specs.declared.refusal.Refusal.TheVariants as refusal
 use Rattle.grid_types.specs.declared.request.Reply.{Reply}
 use Rattle.grid_types.specs.declared.request.Reply.TheVariants as reply
+
+-- a status of the program: 0, or 2 to 8
+abbrev pub IsStatus : ℕ → Type 0
+IsStatus s = (s ≡ 0) ⊎ ((2 ≤ s) × (s ≤ 8))
 
 -- the status of a refusal: 4 where bytes are not what they have to be, 6 for want of memory, 7 where the request can't be done, 8 where a failed batch leaves it open; of a fault of the disk the counts tell
 abbrev pub status_of_refusal : Refusal → ℕ

@@ -1,6 +1,6 @@
 //! How a run ends.
 ghost use Rattle.std.specs.Prelude.{◌≡◌, ◌⊎◌, max};
-ghost use Rattle.grid_shell.specs.Statuses.{status_of_refusal, status_of_reply, greatest_status, status_with_fault};
+ghost use Rattle.grid_shell.specs.Statuses.{IsStatus, status_of_refusal, status_of_reply, greatest_status, status_with_fault};
 
 use grid_types::{Refusal, Reply};
 
@@ -30,7 +30,8 @@ impl Ending {
 
     /// The status that the process ends with.
     pub fn status(self) -> u8
-        ensures { result ≡ status_of self }
+        ensures value { result ≡ status_of self }
+        ensures known { IsStatus result }
     {
         match self {
             Ending::Done => 0,

@@ -4,6 +4,7 @@ ghost use Rattle.disk_trait.specs.Bay.{SameElsewhere};
 ghost use Rattle.disk_trait.specs.Causes.{Rose};
 ghost use Rattle.grid_script.specs.Taken.{IsScript, IsFault};
 ghost use Rattle.grid_shell.specs.Commands.{IsRun};
+ghost use Rattle.grid_shell.specs.Statuses.{IsStatus};
 ghost use Rattle.grid_shell.specs.Endings.{status_of};
 ghost use Rattle.grid_shell.specs.Standing.{attributes};
 ghost use Rattle.grid_shell.specs.Runs.{HasFailed, IsTold};
@@ -71,7 +72,9 @@ pub fn run_grid<R: AllocGlobal, B: Bay, S: Source, O: Sink, E: Sink>(
     out: &mut O,
     err: &mut E,
 ) -> u8
-    // Status 2 comes exactly where the words are not `run` and the name of a file. Then nothing is touched.
+    // The status is 0, or 2 to 8. It is 2 exactly where the words are not `run` and the name of a file, and then
+    // nothing is touched.
+    ensures known { IsStatus result }
     ensures words { (result ≡ 2) ↔ ((name : List ℕ) → IsRun words.now name → ⊥) }
     ensures untouched { result ≡ 2
         → (bay.new ≡ bay.old) × (input.new ≡ input.old) × (out.new ≡ out.old) }

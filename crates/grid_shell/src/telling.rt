@@ -1,7 +1,7 @@
 //! What the error sink is told.
 ghost use Rattle.std.specs.Prelude.{◌≡◌, ◌≤◌, ◌⊎◌, ◌++◌, IsTrue, OnOk};
 ghost use Rattle.disk_trait.specs.Causes.{HasCause, Rose};
-ghost use Rattle.grid_shell.specs.Statuses.{error_text};
+ghost use Rattle.grid_shell.specs.Statuses.{IsStatus, error_text};
 ghost use Rattle.grid_shell.specs.Endings.{status_of, named_line};
 
 use crate::ending::Ending;
@@ -41,6 +41,7 @@ pub fn tell<E: Sink>(err: &mut E, ending: Ending) -> Result<(), SinkFailed>
 /// Tells an ending, and answers its status. Where the error sink fails the status is the same.
 pub fn finish<E: Sink>(err: &mut E, ending: Ending) -> u8
     ensures status { result ≡ status_of ending }
+    ensures known { IsStatus result }
     ensures told { IsTrue (E.tells err.old)
         → Rose (E.fault_count err.old) (E.fault_count err.new)
         ⊎ (E.received err.new

@@ -1,5 +1,5 @@
 -- What each call on a chair leaves, said of the views before and after it.
-use Rattle.std.specs.Prelude.{◌≡◌, ◌≢◌, ◌<◌, ℕ, List, ◌++◌, Option, Some, None, true, Result, Ok, slice_set}
+use Rattle.std.specs.Prelude.{◌≡◌, ◌≢◌, ◌<◌, ℕ, List, ◌++◌, Option, Some, None, true, Result, Ok, Err, slice_set}
 use Rattle.seat_lock.specs.declared.view.View.{View}
 use Rattle.seat_lock.specs.declared.stepped.Stepped.{Ghosts}
 use Rattle.seat_lock.specs.Parts.{Has, Begins, how_many}
@@ -36,7 +36,7 @@ module _ {C Ev R P E : Type 0} (g : Ghosts C Ev R P E) where
     pub found_is : g.part_at core place ≡ Some found
     pub moved : g.onward known found
 
-  -- the value that the seat met was changed, and what the seat has of it then is this part
+  -- a move was made in the value that the seat met, and the seat's part of the new value is this
   pub record Move (v : View E P) : Type 0 where
     pub before : C
     pub after : C
@@ -61,6 +61,10 @@ module _ {C Ev R P E : Type 0} (g : Ghosts C Ev R P E) where
     pub open move use *
     pub did : g.forks before place after answer
     pub view : w ≡ without_turn (with_seen v history) (Some (place, new))
+
+  -- a fork of this seat was refused, and it has done nothing since
+  abbrev pub WasRefused : View E P → Type 0
+  WasRefused w = (v : View E P) × (reply : R) × ForkAnswered v w (Err reply)
 
   -- a fork was made, and the new seat has seen as much and has the new place, with the part that the new value has of it
   pub record SplitOff (v w o : View E P) (new : ℕ) : Type 0 where

@@ -86,7 +86,12 @@ fn sum_of<R: Threads + Wait + Sync>(rt: &R, alloc: Global, seats: u32) -> Option
     let Ok((lock, mut chair)) = SeatLock::open(alloc, Counter::new(1_000_000), PLACES) else {
         return None;
     };
-    let mut others = split_all(rt, &lock, alloc, &mut chair, seats - 1)?;
+    let Ok(mut others) = split_all(rt, &lock, alloc, &mut chair, seats - 1) else {
+        return None;
+    };
+    if others.len() < (seats - 1) as usize {
+        return None;
+    }
     add_all(rt, &lock, &mut others, 500);
     add_many(rt, &lock, &mut chair, 500);
     let note = lock.note(&mut chair);

@@ -85,11 +85,7 @@ impl<C: Stepped> SeatLock<C> {
         requires entries { J.entries ≡ C.appended before.now.value place event.now.value }
         requires count { count ≡ length J.entries }
         requires room { seat.old.me.0.from + length seat.old.me.0.seen + count < 2 ^ 64 }
-        ensures { Becomes seat.old seat.new (
-          with_more seat.old.me.0
-              (C.appended before.now.value place event.now.value),
-          seat.old.me.1,
-        ) }
+        ensures { Becomes seat.old seat.new (with_more seat.old.me.0 J.entries, seat.old.me.1) }
     {
         if count > 0 {
             self.table.shared.fetch_add::<Grow<J>>(seat, 0, count);

@@ -48,7 +48,10 @@ fn measure<R: Threads + Wait + Clock + Sync>(
     let Ok((lock, mut chair)) = SeatLock::open(alloc, Counter::new(u64::MAX), PLACES) else {
         return None;
     };
-    let chairs = split_all(rt, &lock, alloc, &mut chair, load.threads)?;
+    let chairs = split_all(rt, &lock, alloc, &mut chair, load.threads).ok()?;
+    if chairs.len() < load.threads as usize {
+        return None;
+    }
     let acts = load.acts;
     let Ok(start) = Instant::now(rt) else {
         return None;
