@@ -14,10 +14,11 @@ header_at number = header_page number * PAGE_BYTES
 abbrev pub own_page : Shape → ℕ → ℕ → ℕ
 own_page s number i = table_page s (header_page number) i
 
--- where the table area of a root begins, and how many bytes it has
+-- the byte at which the table area of a root begins
 abbrev pub area_at : Shape → ℕ → ℕ
 area_at s number = own_page s number 0 * PAGE_BYTES
 
+-- how many bytes a table area has
 abbrev pub area_bytes : Shape → ℕ
 area_bytes s = area_pages s * PAGE_BYTES
 
