@@ -34,22 +34,22 @@ root_ranges s number = (area_at s number, area_bytes s) ∷ header_ranges number
 abbrev pub GateAlone : ℕ → List ℕ → List ℕ → Type 0
 GateAlone number = Agrees (header_gate_at (header_page number)) 1
 
--- at most in the root fields there
+-- two images differ at most in the root fields of a root's header page
 abbrev pub FieldsAlone : ℕ → List ℕ → List ℕ → Type 0
 FieldsAlone number = Agrees (root_fields_at (header_page number)) 56
 
--- at most in both
+-- two images differ at most in the gate and the root fields of a root's header page
 abbrev pub HeaderAlone : ℕ → List ℕ → List ℕ → Type 0
 HeaderAlone number = AgreesOutside (header_ranges number)
 
--- at most in page i of a root's table area
+-- two images differ at most in page i of a root's table area
 abbrev pub AreaPageAlone : Shape → ℕ → ℕ → List ℕ → List ℕ → Type 0
 AreaPageAlone s number i = Agrees (own_page s number i * PAGE_BYTES) PAGE_BYTES
 
--- at most in a root's table area
+-- two images differ at most in a root's table area
 abbrev pub AreaAlone : Shape → ℕ → List ℕ → List ℕ → Type 0
 AreaAlone s number = Agrees (area_at s number) (area_bytes s)
 
--- at most in all that a root writes
+-- two images differ at most in all that a root writes
 abbrev pub RootAlone : Shape → ℕ → List ℕ → List ℕ → Type 0
 RootAlone s number = AgreesOutside (root_ranges s number)
