@@ -6,11 +6,11 @@ use Rattle.grid_types.specs.declared.shape.Shape.{Shape}
 use Rattle.grid_types.specs.Shapes.{is_shape, header_page, header_gate_at}
 use Rattle.grid_types.proofs.Places.{one-of-two}
 use Rattle.grid_model.specs.Spellings.{RootFields}
-use Rattle.grid_model.specs.Images.{header_gate, IsOpenOver}
+use Rattle.grid_model.specs.Images.{header_gate, IsOpenOver, IsOtherOlder}
 use Rattle.disk_trait.specs.Disk.{Agrees}
 use Rattle.file_roots.specs.Places.{GateAlone}
 use Rattle.file_roots.specs.Roots.{WholeRoot}
-use Rattle.file_roots.specs.Replacing.{IsNewestWhole, ShowsOld, IsOneOf, ComesNext, IsOtherOlder, KeepsOld, IsReady, HasFields, HasOlder, HasTried, HasOneTried, IsReplaceable, NextMayBeWritten}
+use Rattle.file_roots.specs.Replacing.{IsNewestWhole, ShowsOld, IsOneOf, ComesNext, KeepsOld, IsReady, HasFields, HasOlder, HasTried, HasOneTried, IsReplaceable, NextMayBeWritten}
 use Rattle.file_roots.proofs.Headers.{header_two, fields_stay, area_above}
 use Rattle.file_roots.proofs.Stages.{other_header, apart_on_header, kept_stays}
 

@@ -7,13 +7,13 @@ use Rattle.grid_types.specs.Shapes.{is_shape, area_pages, header_page, table_pag
 use Rattle.grid_types.proofs.Places.{table-page-lies}
 use Rattle.grid_model.specs.Spellings.{root_bytes}
 use Rattle.grid_model.specs.Lawful.{IsRootOn}
-use Rattle.grid_model.specs.Images.{header_gate, root_fields, HasArea}
+use Rattle.grid_model.specs.Images.{header_gate, root_fields, HasArea, IsOtherOlder}
 use Rattle.disk_trait.specs.Disk.{Agrees, Holds}
 use Rattle.disk_trait.proofs.Pages.{page_apart, byte_written}
 use Rattle.disk_trait.proofs.Ranges.{outside_one, outside_more}
 use Rattle.file_roots.specs.Roots.{WholeRoot}
 use Rattle.file_roots.specs.Places.{area_at, area_bytes, GateAlone, FieldsAlone, HeaderAlone, AreaAlone, RootAlone}
-use Rattle.file_roots.specs.Replacing.{IsNewestWhole, ComesNext, IsOtherOlder, KeepsOld, IsReady, IsReplaceable}
+use Rattle.file_roots.specs.Replacing.{IsNewestWhole, ComesNext, KeepsOld, IsReady, IsReplaceable}
 use Rattle.file_roots.proofs.Headers.{header_two, gate_is, gate_stays, fields_stay, open_apart, area_above, areas_apart}
 
 -- the header page behind a root's is the other one

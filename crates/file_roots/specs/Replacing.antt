@@ -4,7 +4,7 @@ use Rattle.grid_types.specs.declared.shape.Shape.{Shape}
 use Rattle.grid_types.specs.Shapes.{is_shape, header_page}
 use Rattle.grid_model.specs.Spellings.{RootFields, root_bytes}
 use Rattle.grid_model.specs.Lawful.{IsRootOn, Area}
-use Rattle.grid_model.specs.Images.{header_gate, root_fields, IsOpenOver, IsNewest, HasArea}
+use Rattle.grid_model.specs.Images.{header_gate, root_fields, IsOpenOver, IsOtherOlder, IsNewest, HasArea}
 use Rattle.file_roots.specs.Roots.{WholeRoot}
 
 -- the table area of a root is whole
@@ -40,10 +40,6 @@ pub record ComesAfter (old : RootFields) (number : ℕ) : Type 0 where
 abbrev pub ComesNext : Option WholeRoot → ℕ → Type 0
 ComesNext None number = ⊤
 ComesNext (Some old) number = ComesAfter old.fields number
-
--- the other header page than this root's is closed, or open over a root of a lower number
-abbrev pub IsOtherOlder : Shape → ℕ → List ℕ → Type 0
-IsOtherOlder s number image = (header_gate image (header_page (number + 1)) ≢ 1) ⊎ ((older : RootFields) × IsOpenOver s image (header_page (number + 1)) older × (older.number < number))
 
 -- a root stands on its header page, whatever the other one has: its gate is open over its fields, and its table area is whole
 pub record IsStanding (s : Shape) (w : WholeRoot) (image : List ℕ) : Type 0 where

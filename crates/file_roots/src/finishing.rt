@@ -3,12 +3,12 @@ ghost use Rattle.std.specs.Prelude.{◌≡◌, ◌≤◌, ◌+◌, ◌*◌, ◌%
 ghost use Rattle.grid_types.specs.declared.sizes.TheConstants.{PAGE_BYTES};
 ghost use Rattle.grid_types.specs.Shapes.{file_pages, header_page};
 ghost use Rattle.grid_model.specs.Spellings.{root_bytes};
-ghost use Rattle.grid_model.specs.Images.{root_fields};
+ghost use Rattle.grid_model.specs.Images.{root_fields, IsOtherOlder};
 ghost use Rattle.disk_trait.specs.Calls.{Changes, IsSynced};
 ghost use Rattle.disk_trait.specs.Causes.{HasCause};
 ghost use Rattle.file_roots.specs.Roots.{WholeRoot, root_fields_of, whole_of, IsRoot};
 ghost use Rattle.file_roots.specs.Places.{FieldsAlone, HeaderAlone};
-ghost use Rattle.file_roots.specs.Replacing.{HasAreaOf, IsNewestWhole, IsOtherOlder};
+ghost use Rattle.file_roots.specs.Replacing.{HasAreaOf, IsNewestWhole};
 ghost use Rattle.file_roots.specs.Writing.{MayBeWritten, Awaits, AlwaysShows};
 
 use crate::Root;

@@ -5,7 +5,8 @@ ghost use Rattle.grid_types.specs.Shapes.{file_pages};
 ghost use Rattle.disk_trait.specs.Calls.{Changes, IsSynced, HasCauses};
 ghost use Rattle.file_roots.specs.Roots.{WholeRoot, whole_of, IsRoot};
 ghost use Rattle.file_roots.specs.Places.{RootAlone};
-ghost use Rattle.file_roots.specs.Replacing.{IsNewestWhole, IsOtherOlder};
+ghost use Rattle.grid_model.specs.Images.{IsOtherOlder};
+ghost use Rattle.file_roots.specs.Replacing.{IsNewestWhole};
 ghost use Rattle.file_roots.specs.Writing.{MayBeWritten, AlwaysShows};
 ghost use Rattle.file_roots.specs.Refusals.{MayRefuseWriting};
 

@@ -43,10 +43,14 @@ pub record IsOpenOver (s : Shape) (image : List ℕ) (h : ℕ) (r : RootFields) 
   pub spelled : root_fields image h ≡ root_bytes r
   pub lawful : IsRootOn s h r
 
+-- the other header page than that of a root of this number is closed, or open over a root of a lower number
+abbrev pub IsOtherOlder : Shape → ℕ → List ℕ → Type 0
+IsOtherOlder s number image = (header_gate image (header_page (number + 1)) ≢ 1) ⊎ ((older : RootFields) × IsOpenOver s image (header_page (number + 1)) older × (older.number < number))
+
 -- the newest root: one of the two header pages is open over it, and the other is closed or open over a root of a lower number
 pub record IsNewest (s : Shape) (image : List ℕ) (r : RootFields) : Type 0 where
   pub opens : IsOpenOver s image (header_page r.number) r
-  pub other : (header_gate image (header_page (r.number + 1)) ≢ 1) ⊎ ((older : RootFields) × IsOpenOver s image (header_page (r.number + 1)) older × (older.number < r.number))
+  pub other : IsOtherOlder s r.number image
 
 -- the boundaries on the first or the second page of a scale: the first page is filled first
 abbrev pub half_of_scale : ℕ → List ℕ → List ℕ
