@@ -25,8 +25,8 @@ unfolding numbers
 body_joined count page few zeros long fits = body_read 4 count page (omega (arith, few)) zeros long fits
 
 -- a page with that head, and zeros behind so many cells, is the page of that part
-pub joined : (part count : ℕ) (page : List ℕ) → part < 2 ^ 32 → count ≤ 1000 → length page ≡ 4096 → AreBytes page → IsPartHead part count page → AreZeros (96 + 4 * count) 4096 page → IsDirectoryPage part count page
-joined part count page fit few long fits h zeros =
+pub directory_page-from_parts : (part count : ℕ) (page : List ℕ) → part < 2 ^ 32 → count ≤ 1000 → length page ≡ 4096 → AreBytes page → IsPartHead part count page → AreZeros (96 + 4 * count) 4096 page → IsDirectoryPage part count page
+directory_page-from_parts part count page fit few long fits h zeros =
     let cells = entries_in 4 96 count page in
     let size : length cells ≡ count = length-entries_in 4 96 count page in
     let spelled : page ≡ part_head part count ++ (numbers 4 cells ++ zeros_left 4 count) = head_joined part count page h (omega arith) fits ∙ ap (λ (r : List ℕ). part_head part count ++ r) (body_joined count page few zeros long fits) in

@@ -13,8 +13,8 @@ use Rattle.linear_scales.specs.Limited.{IsLimited}
 use Rattle.linear_scales.specs.Searches.{IsBoundaryAt, FitsAt}
 
 -- what is found at an index
-stands : (bs : List ℕ) (v i : ℕ) → is_scale bs ≡ true → i < length bs → slice_index bs i ≡ v → IsBoundaryAt bs v i
-stands bs v i e p q = record {
+boundary-found : (bs : List ℕ) (v i : ℕ) → is_scale bs ≡ true → i < length bs → slice_index bs i ≡ v → IsBoundaryAt bs v i
+boundary-found bs v i e p q = record {
   inside = p;
   among = among-at bs v i p q;
   counted = interval-at bs v (i + 1) (omega (arith, p)) (λ k r. omega (arith, q, never-falls 1 bs k i e (omega (arith, r)) p)) (λ k r s. omega (arith, q, ascends 1 bs i k e (omega (arith, r)) s));
@@ -38,7 +38,7 @@ pub search-answers : (bs : List ℕ) (v : ℕ) (r : Result ℕ ℕ) → is_scale
 search-answers bs v r e h = by r (searched bs v r h (λ i j p q. never-falls 1 bs i j e p q))
   where
     by : (r : Result ℕ ℕ) → MatchResult r (λ i. (i < length bs) × (get_or bs i 0 ≡ v)) (λ i. (i ≤ length bs) × ((k : ℕ) → k < i → get_or bs k 0 < v) × ((k : ℕ) → i ≤ k → k < length bs → v < get_or bs k 0)) → MatchResult r (IsBoundaryAt bs v) (FitsAt bs v)
-    by (Ok i) g = stands bs v i e g.0 g.1
+    by (Ok i) g = boundary-found bs v i e g.0 g.1
     by (Err i) g = fits bs v i g.0 g.1 g.2
 
 -- a boundary that is put where it fits makes a scale within the limit

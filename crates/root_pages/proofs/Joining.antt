@@ -27,8 +27,8 @@ head_joined kind root index count page four h low fits =
     fields ∙ sym joined ∙ ap (λ (k : List ℕ). k ++ body) (sym (head_is kind index count root four))
 
 -- a page with that head, and zeros behind so many entries, is the page of the entries that stand in it
-pub joined : (w : ℕ) (kind : List ℕ) (root index count : ℕ) (page : List ℕ) → length kind ≡ 4 → w * count ≤ 4000 → length page ≡ 4096 → AreBytes page → IsPageUpTo kind root index count (96 + w * count) page → page ≡ entries_page w kind root index (entries_in w 96 count page)
-joined w kind root index count page four few long fits p =
+pub entries_page-from_parts : (w : ℕ) (kind : List ℕ) (root index count : ℕ) (page : List ℕ) → length kind ≡ 4 → w * count ≤ 4000 → length page ≡ 4096 → AreBytes page → IsPageUpTo kind root index count (96 + w * count) page → page ≡ entries_page w kind root index (entries_in w 96 count page)
+entries_page-from_parts w kind root index count page four few long fits p =
     let entries = entries_in w 96 count page in
     let spelled : page ≡ padded 96 (area_head kind index count root) ++ (flat_map (bytes_of w) entries ++ zeros_left w count) = head_joined kind root index count page four p.head (omega (arith, long)) fits ∙ ap (λ (r : List ℕ). padded 96 (area_head kind index count root) ++ r) (body_read w count page few p.zeros long fits) in
     spelled

@@ -7,7 +7,7 @@ use Rattle.root_pages.specs.Reading.{IsPageUpTo, AreOn}
 use Rattle.root_pages.specs.Laws.{IsOneList}
 use Rattle.root_pages.proofs.Heads.{scale_is, list_is, table_is}
 use Rattle.root_pages.proofs.Standing.{Fits, PageAt, page_there, one_list}
-use Rattle.root_pages.proofs.Joining.{joined}
+use Rattle.root_pages.proofs.Joining.{entries_page-from_parts}
 
 -- a spelling makes pages of entries of this kind, and their most entries have room
 pub record IsKind (w : ℕ) (kind : List ℕ) (spelling : ℕ → ℕ → List ℕ → List ℕ) (most bits : ℕ) : Type 0 where
@@ -59,7 +59,7 @@ module _ (w : ℕ) (kind : List ℕ) (spelling : ℕ → ℕ → List ℕ → Li
           index_in_range = fi;
           in_range = λ i. subst (λ (n : ℕ). slice_index entries i < n) (sym k.width) (entries_fit w 96 count page fits i);
           few = omega (arith, size, le);
-          bytes = joined w kind root index count page k.four (k.room count le) long fits p ∙ sym (k.same root index entries);
+          bytes = entries_page-from_parts w kind root index count page k.four (k.room count le) long fits p ∙ sym (k.same root index entries);
         };
       }
 
