@@ -23,7 +23,7 @@ use Rattle.disk_trait.proofs.Pages.{agrees_same}
 use Rattle.grid_shell.specs.declared.lone.Lone.{Lone}
 use Rattle.grid_shell.specs.Standing.{undivided, worn_at, takes, Answers, HoldsPut, StandsFor, StandsForLone, TellsTable}
 use Rattle.grid_shell.specs.Calls.{RefusesGet, RefusesPut, PutsInto, RefusesPutInto}
-use Rattle.grid_shell.specs.Replies.{MayRefusePut, IsReplyTo, Judges, TellsLone, IsDiskFault, LeavesLone, RepliesTo}
+use Rattle.grid_shell.specs.Replies.{ReadsFor, MayRefusePut, IsReplyTo, Judges, TellsLone, IsDiskFault, LeavesLone, RepliesTo}
 use Rattle.grid_shell.proofs.Undivided.{first_entry, records_inside-all, put_done, put_refused, done_table, done_front, done_layout, done_used, done_rooted, done_kept}
 
 -- all records of the file lie in the one box
@@ -101,14 +101,14 @@ module _ {D : Type 0} {g : Ghosts D} {K : ℕ} (old new : Lone D g) where
 
   -- a get that was answered
   pub get_answered : (k : Key K) (a : Answer (Option (List ℕ))) → a.at ≡ old.front → ((t : Table) → TellsTable g K old.capacity old.disk t → a.value ≡ get t k.numbers)
-      → Answers K old.capacity new.page k.numbers a.value → OnlyReads g old.disk new.disk → (new.front ≡ old.front) × (new.capacity ≡ old.capacity) → RepliesTo g (ask.Get k) old new (Ok (reply.Got a))
-  get_answered k a at value answers reads same = record {
+      → Answers K old.capacity new.page k.numbers a.value → ReadsFor g K k.numbers old new (Ok a) → RepliesTo g (ask.Get k) old new (Ok (reply.Got a))
+  get_answered k a at value answers read = record {
     kind = tt;
     judged = answers;
     told = λ s tells. got_reply old.capacity s k a (at ∙ tells.stands.updates) (value s.table (tells_table 1 s tells));
-    stands = λ s tells. stands_after_get old.capacity s (g.seen old.disk) (g.seen new.disk) old.front new.front k tells.stands (reads.seen tells.told) same.0;
-    front = omega (arith, same.0);
-    leaves = leaves_read old new (Ok (reply.Got a)) same.1 reads (causes_ok (reply.Got a));
+    stands = λ s tells. stands_after_get old.capacity s (g.seen old.disk) (g.seen new.disk) old.front new.front k tells.stands (read.disk.seen tells.told) read.front;
+    front = omega (arith, read.front);
+    leaves = leaves_read old new (Ok (reply.Got a)) read.capacity read.disk (causes_ok (reply.Got a));
   }
 
   -- a put that was answered
@@ -132,27 +132,27 @@ fault_causes {T = T} {U = U} {g = g} {old = old} {new = new} e f same fault c =
 -- a get that was refused: its reply is the damaged page, or the disk failed
 module _ {D : Type 0} {g : Ghosts D} {K : ℕ} (old new : Lone D g) (k : Key K) (e : Refusal) where
   pub get_refused : {T : Type 0} (r : Result (Reply K) Refusal) → IfOk r (λ p. p ≡ reply.Refused e) → IfOk r (λ p. (e ≢ ReadFault) × (e ≢ WriteFault)) → IfErr r (λ f. (f ≡ e) × IsDiskFault f)
-      → ((t : Table) → TellsTable g K old.capacity old.disk t → e ≡ ReadFault) → OnlyReads g old.disk new.disk → HasCauses {T = T} g (RefusesGet K old.capacity new.page k.numbers) old.disk new.disk (Err e) → (new.front ≡ old.front) × (new.capacity ≡ old.capacity)
+      → ((t : Table) → TellsTable g K old.capacity old.disk t → e ≡ ReadFault) → ReadsFor {T = T} g K k.numbers old new (Err e)
       → RepliesTo g (ask.Get k) old new r
-  get_refused (Ok p) is none fault table reads causes same = record {
-    kind = subst (IsReplyTo (ask.Get k)) (sym is) (damaged causes.no_other).0;
-    judged = subst (Judges old.capacity new.page (ask.Get k)) (sym is) (damaged causes.no_other);
+  get_refused (Ok p) is none fault table read = record {
+    kind = subst (IsReplyTo (ask.Get k)) (sym is) (damaged read.causes.no_other).0;
+    judged = subst (Judges old.capacity new.page (ask.Get k)) (sym is) (damaged read.causes.no_other);
     told = λ s tells. absurd (none.0 (table s.table (tells_table old new 1 s tells)));
     stands = λ s tells. absurd (none.0 (table s.table (tells_table old new 1 s tells)));
-    front = omega (arith, same.0);
-    leaves = leaves_read old new (Ok p) same.1 reads (causes_ok p);
+    front = omega (arith, read.front);
+    leaves = leaves_read old new (Ok p) read.capacity read.disk (causes_ok p);
   }
     where
       damaged : RefusesGet K old.capacity new.page k.numbers e → Judges old.capacity new.page (ask.Get k) (reply.Refused e)
-      damaged (inl read) = absurd (none.0 read)
+      damaged (inl failed) = absurd (none.0 failed)
       damaged (inr page) = page
-  get_refused (Err f) is none fault table reads causes same = record {
+  get_refused (Err f) is none fault table read = record {
     kind = tt;
     judged = tt;
     told = λ s tells. tt;
     stands = λ s tells. tt;
-    front = omega (arith, same.0);
-    leaves = leaves_read old new (Err f) same.1 reads (fault_causes e f fault.0 fault.1 causes);
+    front = omega (arith, read.front);
+    leaves = leaves_read old new (Err f) read.capacity read.disk (fault_causes e f fault.0 fault.1 read.causes);
   }
 
 -- a put that was refused: its reply is what the page says of it, or the disk failed

@@ -1,5 +1,5 @@
 -- The replies of a lone caller: what a page says of a request, and what a request leaves.
-use Rattle.std.specs.Prelude.{◌≡◌, ◌⊎◌, ◌≤◌, ◌+◌, ◌∷◌, [], ℕ, List, Result, IsTrue, IfOk, OnOk, ⊤, length}
+use Rattle.std.specs.Prelude.{◌≡◌, ◌⊎◌, ◌≤◌, ◌+◌, ◌∷◌, [], ℕ, List, Result, IsTrue, IfOk, OnOk, IsErrOf, ⊤, length}
 use Rattle.grid_types.specs.declared.request.Line.{Line}
 use Rattle.grid_types.specs.declared.request.Request.{Request}
 use Rattle.grid_types.specs.declared.request.Request.TheVariants as ask
@@ -7,15 +7,16 @@ use Rattle.grid_types.specs.declared.request.Reply.{Reply}
 use Rattle.grid_types.specs.declared.request.Reply.TheVariants as reply
 use Rattle.grid_types.specs.declared.refusal.Refusal.{Refusal}
 use Rattle.grid_types.specs.declared.refusal.Refusal.TheVariants.{ReadFault, WriteFault, Damaged, NoCut, Worn}
+use Rattle.grid_types.specs.Pages.{page_of}
 use Rattle.grid_model.specs.Lone.{State, lone, answers, afterwards}
 use Rattle.grid_model.specs.Text.{Group}
 use Rattle.grid_model.specs.Transcripts.{requests}
 use Rattle.disk_trait.specs.declared.disk.Disk.{Ghosts}
 use Rattle.disk_trait.specs.Disk.{Agrees}
-use Rattle.disk_trait.specs.Calls.{Changes, HasCauses}
+use Rattle.disk_trait.specs.Calls.{OnlyReads, Changes, HasCauses}
 use Rattle.grid_shell.specs.declared.lone.Lone.{Lone}
 use Rattle.grid_shell.specs.Standing.{undivided, worn_at, Answers, HoldsPut, IsDamaged, StandsForLone}
-use Rattle.grid_shell.specs.Calls.{JudgesPut}
+use Rattle.grid_shell.specs.Calls.{RefusesGet, JudgesPut}
 
 -- a refusal that a put may be told
 abbrev pub MayRefusePut : Refusal → Type 0
@@ -54,6 +55,14 @@ pub record TellsLone {D : Type 0} (g : Ghosts D) {K : ℕ} (n : ℕ) (l : Lone D
   pub told : IsTrue (g.honest l.disk)
   pub stands : StandsForLone K l.capacity (g.seen l.disk) l.front s
   pub unworn : l.front + n ≤ worn_at
+
+-- page 0 was read for a key, and nothing else was done: a refusal has its cause, and of a disk that tells its content the page has the image's bytes
+pub record ReadsFor {D T : Type 0} (g : Ghosts D) (K : ℕ) (key : List ℕ) (old new : Lone D g) (result : Result T Refusal) : Type 0 where
+  pub bytes : IsTrue (g.honest old.disk) → (IsErrOf result ReadFault → ⊥) → new.page ≡ page_of 0 (g.seen old.disk)
+  pub disk : OnlyReads g old.disk new.disk
+  pub causes : HasCauses g (RefusesGet K old.capacity new.page key) old.disk new.disk result
+  pub front : new.front ≡ old.front
+  pub capacity : new.capacity ≡ old.capacity
 
 -- a fault of the disk
 abbrev pub IsDiskFault : Refusal → Type 0

@@ -13,7 +13,7 @@ ghost use Rattle.disk_trait.specs.Disk.{Agrees};
 ghost use Rattle.disk_trait.specs.Calls.{OnlyReads, Changes, HasCauses};
 ghost use Rattle.bucket_page.specs.Buckets.{bucket_of};
 ghost use Rattle.grid_shell.specs.Standing.{takes, worn_at, IsExpected, Answers, HoldsPut, StandsFor, TellsTable};
-ghost use Rattle.grid_shell.specs.Calls.{RefusesGet, RefusesPut, PutsInto, RefusesPutInto};
+ghost use Rattle.grid_shell.specs.Calls.{RefusesPut, PutsInto, RefusesPutInto};
 
 use arrayvec::ArrayVec;
 use bucket_page::{Bucket, decode, encode};
@@ -93,7 +93,20 @@ fn put_within<const K: usize>(
     Some(bucket.insert(row))
 }
 
+/// Writes page 0 of a disk.
+fn write_first<D: Disk>(disk: &mut D, page: &[u8; PAGE_BYTES]) -> Result<(), DiskFailed>
+    requires { PAGE_BYTES ≤ D.extent disk.old }
+    ensures written { IsTrue (D.honest disk.old)
+        → OnOk result (page_of 0 (D.seen disk.new) ≡ page.now) }
+    ensures changes { Changes D.Disk (Agrees 0 PAGE_BYTES) disk.old disk.new }
+    ensures cause { HasCause (D.write_count disk.old) (D.write_count disk.new) result }
+{
+    disk.write(0, page)
+}
+
 impl<D: Disk> Lone<D> {
+    ghost use Rattle.grid_shell.specs.Replies.{ReadsFor};
+
     /// Writes the page of an empty bucket of the whole region on page 0.
     pub fn begin<const K: usize>(disk: D, capacity: u16) -> Result<Lone<D>, OpenFault<D>>
         requires few { K ≤ MOST_ATTRIBUTES }
@@ -117,7 +130,7 @@ impl<D: Disk> Lone<D> {
         };
         let mut page = [0; PAGE_BYTES];
         encode(&bucket, capacity, &mut page);
-        match disk.write(0, &page) {
+        match write_first(&mut disk, &page) {
             Ok(()) => Ok(Lone {
                 disk,
                 capacity,
@@ -144,13 +157,7 @@ impl<D: Disk> Lone<D> {
             (IsExpected K self.old.capacity self.new.page key.now.numbers) }
         ensures table { (t : Table) (s : TellsTable D.Disk K self.old.capacity self.old.disk t)
             → MatchResult result (λ b. b ≡ s.stands.bucket) (λ e. e ≡ ReadFault) }
-        ensures bytes { IsTrue (D.honest self.old.disk) → (IsErrOf result ReadFault → ⊥)
-            → self.new.page ≡ page_of 0 (D.seen self.old.disk) }
-        ensures reads { OnlyReads D.Disk self.old.disk self.new.disk }
-        ensures causes { HasCauses D.Disk
-            (RefusesGet K self.old.capacity self.new.page key.now.numbers)
-            self.old.disk self.new.disk result }
-        ensures same { (self.new.front ≡ self.old.front) × (self.new.capacity ≡ self.old.capacity) }
+        ensures read { ReadsFor D.Disk K key.now.numbers self.old self.new result }
     {
         read_page(&mut self.disk, 0, &mut self.page, steps)?;
         let Some(bucket) = decode::<K>(&self.page, self.capacity) else {
@@ -179,7 +186,7 @@ impl<D: Disk> Lone<D> {
         ensures same { (self.new.front ≡ self.old.front) × (self.new.capacity ≡ self.old.capacity) }
     {
         encode(bucket, self.capacity, &mut self.page);
-        self.disk.write(0, &self.page)
+        write_first(&mut self.disk, &self.page)
     }
 
     /// The data at a key, read in one step.
@@ -194,14 +201,8 @@ impl<D: Disk> Lone<D> {
             → MatchResult result (λ a. a.value ≡ get t key.now.numbers) (λ e. e ≡ ReadFault) }
         ensures answers { IfOk result (λ a.
             Answers K self.old.capacity self.new.page key.now.numbers a.value) }
-        ensures bytes { IsTrue (D.honest self.old.disk) → (IsErrOf result ReadFault → ⊥)
-            → self.new.page ≡ page_of 0 (D.seen self.old.disk) }
-        ensures reads { OnlyReads D.Disk self.old.disk self.new.disk }
-        ensures causes { HasCauses D.Disk
-            (RefusesGet K self.old.capacity self.new.page key.now.numbers)
-            self.old.disk self.new.disk result }
+        ensures read { ReadsFor D.Disk K key.now.numbers self.old self.new result }
         ensures one_read { steps.new ≡ steps.old + 1 }
-        ensures same { (self.new.front ≡ self.old.front) × (self.new.capacity ≡ self.old.capacity) }
     {
         let bucket = self.bucket_of(key, steps)?;
         Ok(Answer {

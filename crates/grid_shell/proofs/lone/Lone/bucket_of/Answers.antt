@@ -14,8 +14,14 @@ page_damaged g c = λ b expected.
     let same : c.in-Some.bucket ≡ b = c.in-Some.ensures.only b expected.spelled in
     false≢true (sym c.if-not-contains.true ∙ c.contains.ensures.within.1 (subst (λ x. Within x.region.lo x.region.hi c.args.key.now.numbers) (sym same) expected.inside))
 
-pub returns-then-not-contains-clause-causes : goal.returns-then-not-contains-clause-causes
-returns-then-not-contains-clause-causes g c = causes_other (Damaged 0) (λ e. cc) (λ e. cc) (inr (refl, page_damaged g c))
+pub returns-then-not-contains-clause-read : goal.returns-then-not-contains-clause-read
+returns-then-not-contains-clause-read g c = record {
+  bytes = λ h none. c.in_ok-read_page.ensures.bytes h;
+  disk = c.read_page.ensures.same;
+  causes = causes_other (Damaged 0) (λ e. cc) (λ e. cc) (inr (refl, page_damaged g c));
+  front = refl;
+  capacity = refl;
+}
 
 pub returns-then-not-contains-clause-table : goal.returns-then-not-contains-clause-table
 returns-then-not-contains-clause-table g c = λ t s.

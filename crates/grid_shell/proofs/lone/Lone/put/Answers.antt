@@ -15,14 +15,14 @@ returns-in_default-clause-table g c = λ t s.
     let key = c.args.row.now.key.numbers in
     inr (inr (inl (
       refl,
-      sym (takes-bucket s.stands b (c.in_ok-bucket.ensures.table t s) c.bucket_of.new.self.capacity key c.bucket_of.ensures.same.1) ∙ sym c.in_default.ensures.taken,
+      sym (takes-bucket s.stands b (c.in_ok-bucket.ensures.table t s) c.bucket_of.new.self.capacity key c.bucket_of.ensures.read.capacity) ∙ sym c.in_default.ensures.taken,
     )))
 
 pub returns-in-Err-clause-changes : goal.returns-in-Err-clause-changes
-returns-in-Err-clause-changes g c = reads_then_changes (agrees_same 0 4096) c.bucket_of.ensures.reads c.rewrite.ensures.changes
+returns-in-Err-clause-changes g c = reads_then_changes (agrees_same 0 4096) c.bucket_of.ensures.read.disk c.rewrite.ensures.changes
 
 pub returns-clause-changes : goal.returns-clause-changes
-returns-clause-changes g c = reads_then_changes (agrees_same 0 4096) c.bucket_of.ensures.reads c.rewrite.ensures.changes
+returns-clause-changes g c = reads_then_changes (agrees_same 0 4096) c.bucket_of.ensures.read.disk c.rewrite.ensures.changes
 
 pub returns-clause-table : goal.returns-clause-table
 returns-clause-table g c = λ t s.
@@ -31,9 +31,9 @@ returns-clause-table g c = λ t s.
     let same = c.in_ok-bucket.ensures.table t s in
     let put = c.in-Some.ensures in
     record {
-      taken = sym (takes-bucket s.stands b same c.bucket_of.new.self.capacity key c.bucket_of.ensures.same.1) ∙ sym put.taken;
+      taken = sym (takes-bucket s.stands b same c.bucket_of.new.self.capacity key c.bucket_of.ensures.read.capacity) ∙ sym put.taken;
       found = put.old ∙ ap (λ es. get es key) (pairs_of-bucket s.stands b same);
-      stands = stands_for-put s.stands b same (g.D.Disk.seen c.rewrite.new.self.disk) c.put_within.new.bucket key c.args.row.now.value c.bucket_of.new.self.capacity c.bucket_of.ensures.same.1
+      stands = stands_for-put s.stands b same (g.D.Disk.seen c.rewrite.new.self.disk) c.put_within.new.bucket key c.args.row.now.value c.bucket_of.new.self.capacity c.bucket_of.ensures.read.capacity
           (put.bucket c.in_ok-bucket.ensures.expected.inside) put.number put.region put.rows
-          (c.in-Ok.ensures.written (c.bucket_of.ensures.reads.honest ∙ s.told));
+          (c.in-Ok.ensures.written (c.bucket_of.ensures.read.disk.honest ∙ s.told));
     }
