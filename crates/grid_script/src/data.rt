@@ -2,7 +2,8 @@
 ghost use Rattle.std.specs.Prelude.{◌≡◌};
 ghost use Rattle.grid_model.specs.Script.{parsed_data};
 
-use grid_types::Data;
+use crate::text::HEX_DIGITS;
+use grid_types::{Data, LONGEST_DATA};
 
 /// The data that a field writes: two digits for each byte, or a dash for no bytes.
 pub fn parse_data(field: &[u8]) -> Option<Data>
@@ -11,10 +12,10 @@ pub fn parse_data(field: &[u8]) -> Option<Data>
     if field == b"-".as_slice() {
         return Data::new(b"");
     }
-    if field.is_empty() || 80 < field.len() {
+    if field.is_empty() || HEX_DIGITS < field.len() {
         return None;
     }
-    let mut bytes = [0; 40];
+    let mut bytes = [0; LONGEST_DATA];
     let part = &mut bytes[..field.len() / 2];
     match hex::decode_to_slice(field, part) {
         Ok(()) => Data::new(part),

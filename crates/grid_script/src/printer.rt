@@ -2,7 +2,7 @@
 ghost use Rattle.std.specs.Prelude.{◌≡◌, ◌<◌, ◌≤◌, ◌+◌, ◌++◌, ◌∷◌, [], map, length, slice_index_or, codes};
 ghost use Rattle.arrayvec.specs.ArrayVec.{array_vec_len};
 ghost use Rattle.grid_model.specs.Text.{key_text, row_text, stat_text, reply_lines, ended};
-ghost use Rattle.grid_script.specs.declared.text.TheConstants.{LINE};
+ghost use Rattle.grid_script.specs.declared.text.TheConstants.{HEX_DIGITS, LINE};
 
 use crate::text::{
     Text, print_bytes, print_data, print_found, print_numbered, print_pair, print_refusal,
@@ -34,9 +34,9 @@ fn print_key<const K: usize>(key: &Key<K>, out: &mut Text)
 /// Key and data of a record.
 fn print_row<const K: usize>(row: &Record<K>, out: &mut Text)
     requires few { K ≤ 4 }
-    requires room { array_vec_len out.old + 165 ≤ 4096 }
+    requires room { array_vec_len out.old + 85 + HEX_DIGITS ≤ 4096 }
     ensures items { out.new.items ≡ out.old.items ++ row_text row.now }
-    ensures len { array_vec_len out.new ≤ array_vec_len out.old + 165 }
+    ensures len { array_vec_len out.new ≤ array_vec_len out.old + 85 + HEX_DIGITS }
 {
     print_key(&row.key, out);
     print_bytes(b" ", out);
@@ -69,9 +69,9 @@ fn print_stat(stat: &Stat, out: &mut Text)
 #[tactic(auto, unfolding(grid_model::specs::Text::reply_lines))]
 fn print_first<const K: usize>(reply: &Reply<K>, out: &mut Text)
     requires few { K ≤ 4 }
-    requires room { array_vec_len out.old + 140 ≤ 4096 }
+    requires room { array_vec_len out.old + 60 + HEX_DIGITS ≤ 4096 }
     ensures items { out.new.items ≡ out.old.items ++ slice_index_or (reply_lines reply.now) 0 [] }
-    ensures len { array_vec_len out.new ≤ array_vec_len out.old + 140 }
+    ensures len { array_vec_len out.new ≤ array_vec_len out.old + 60 + HEX_DIGITS }
 {
     match reply {
         Reply::Put(answer) => {

@@ -5,14 +5,18 @@ ghost use Rattle.grid_script.specs.Fields.{found_text};
 ghost use Rattle.grid_model.specs.Text.{hex_text, numbered, refusal_text, ended, front_line};
 
 use arrayvec::ArrayVec;
-use grid_types::{Data, Refusal};
+use grid_types::{Data, LONGEST_DATA, Refusal};
 use itoa::Buffer;
 
 /// Where text is gathered before it is written.
 pub type Text = ArrayVec<u8, 4096>;
 
-/// As many bytes as are enough for any line: a row of four numbers and 40 bytes has 166 with its end.
-pub const LINE: usize = 192;
+/// The hexadecimal digits of the longest data.
+pub const HEX_DIGITS: usize = 2 * LONGEST_DATA;
+
+/// As many bytes as are enough for any line: a row has four numbers of 20 digits with commas between, a space, its data and
+/// its end.
+pub const LINE: usize = 112 + HEX_DIGITS;
 
 pub fn print_bytes(bytes: &[u8], out: &mut Text)
     requires { array_vec_len out.old + length bytes.now ≤ 4096 }
@@ -38,16 +42,16 @@ pub fn print_numbered(word: &[u8], n: u64, out: &mut Text)
 
 /// Data as hexadecimal digits, or as a dash where there is none.
 pub fn print_data(value: &Data, out: &mut Text)
-    requires { array_vec_len out.old + 80 ≤ 4096 }
+    requires { array_vec_len out.old + HEX_DIGITS ≤ 4096 }
     ensures items { out.new.items ≡ out.old.items ++ hex_text value.now }
-    ensures len { array_vec_len out.new ≤ array_vec_len out.old + 80 }
+    ensures len { array_vec_len out.new ≤ array_vec_len out.old + HEX_DIGITS }
 {
     let bytes = value.bytes();
     if bytes.is_empty() {
         print_bytes(b"-", out);
         return;
     }
-    let mut digits = [0; 80];
+    let mut digits = [0; HEX_DIGITS];
     let part = &mut digits[..2 * bytes.len()];
     match hex::encode_to_slice(bytes, part) {
         Ok(()) => print_bytes(part, out),
@@ -57,10 +61,10 @@ pub fn print_data(value: &Data, out: &mut Text)
 
 /// A word where there is no data, or else another word and the data.
 pub fn print_found(absent: &[u8], word: &[u8], value: &Option<Data>, out: &mut Text)
-    requires { array_vec_len out.old + length absent.now + length word.now + 80 ≤ 4096 }
+    requires { array_vec_len out.old + length absent.now + length word.now + HEX_DIGITS ≤ 4096 }
     ensures items { out.new.items ≡ out.old.items ++ found_text absent.now word.now value.now }
     ensures len { array_vec_len out.new
-        ≤ array_vec_len out.old + length absent.now + length word.now + 80 }
+        ≤ array_vec_len out.old + length absent.now + length word.now + HEX_DIGITS }
 {
     match value {
         None => print_bytes(absent, out),
