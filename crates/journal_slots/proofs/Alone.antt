@@ -1,5 +1,6 @@
 -- In a page stands one batch at most, and one that stands there is lawful where its fields are.
 use Rattle.std.proofs.Common.{◌≡◌, ◌<◌, ◌≤◌, ◌+◌, ◌*◌, ◌^◌, ℕ, Bool, true, false, List, length, drop, get_or, slice_index, refl, sym, ap, subst, ◌∙◌, arith}
+use Rattle.grid_types.specs.declared.sizes.TheConstants.{HEAD_BYTES, LONGEST_DATA, UPDATE_BYTES}
 use Rattle.std.specs.Prelude.{cond}
 use Rattle.std.proofs.lemmas.List.{same_lists}
 use Rattle.grid_types.specs.declared.layout_change.Cut.{Cut}
@@ -71,7 +72,7 @@ one_batch K page a b x y =
     let first : a.first ≡ b.first = x.first ∙ sym y.first in
     let long : length a.updates ≡ length b.updates = x.count ∙ sym y.count in
     let updates : a.updates ≡ b.updates = same_lists a.updates b.updates long (λ i d lt.
-    one_noted K page (96 + 96 * i) (get_or a.updates i d) (get_or b.updates i d) (x.updates i d lt) (y.updates i d (omega (arith, long, lt)))) in
+    one_noted K page (HEAD_BYTES + UPDATE_BYTES * i) (get_or a.updates i d) (get_or b.updates i d) (x.updates i d lt) (y.updates i d (omega (arith, long, lt)))) in
     λ i. record { session = session i; first = first i; updates = updates i }
 
 -- a batch stands in a page where its fields were read
@@ -83,7 +84,7 @@ batch_read K page session first count updates session_is in_range first_is long 
 change_fits : (K : ℕ) (page : List ℕ) (at : ℕ) (u : Update K) → ChangeAt K page at u → IsUpdateOf K u
 change_fits K page at (Put r) x = record {
   key = corner-is-key K page (at + 16) r.key.numbers x.key;
-  value = subst (λ (v : List ℕ). length v ≤ 40) (sym x.value) (few-taken (slice_index page (at + 3)) 40 (drop (at + 48) page) x.short);
+  value = subst (λ (v : List ℕ). length v ≤ LONGEST_DATA) (sym x.value) (few-taken (slice_index page (at + 3)) LONGEST_DATA (drop (at + 48) page) x.short);
 }
 change_fits K page at (Remove k) x = record { key = corner-is-key K page (at + 16) k.numbers x.key_is; value = omega arith }
 
@@ -105,8 +106,8 @@ read_batch_lawful K page b read few lawful = record {
   updates = λ i d h.
       let at = read.updates i d h in
       record {
-        update = change_fits K page (96 + 96 * i) (get_or b.updates i d).update at.update;
-        note = note_fits K page (96 + 96 * i) (get_or b.updates i d).update (get_or b.updates i d).note at.note (lawful.notes i d h);
+        update = change_fits K page (HEAD_BYTES + UPDATE_BYTES * i) (get_or b.updates i d).update at.update;
+        note = note_fits K page (HEAD_BYTES + UPDATE_BYTES * i) (get_or b.updates i d).update (get_or b.updates i d).note at.note (lawful.notes i d h);
       };
 }
 

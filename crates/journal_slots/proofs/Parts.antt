@@ -1,5 +1,6 @@
 -- The parts of a slot page, one behind the other.
 use Rattle.std.proofs.Common.{◌≡◌, ◌≤◌, ◌+◌, ◌-◌, ℕ, List, [], ◌∷◌, ◌++◌, length, refl, ap, ◌∙◌, append_assoc, length-append, arith, replicate, codes}
+use Rattle.grid_types.specs.declared.sizes.TheConstants.{LONGEST_DATA, UPDATE_BYTES}
 use Rattle.std.proofs.lemmas.List.{replicate-append-replicate}
 use Rattle.grid_types.specs.declared.layout_change.LoggedUpdate.{LoggedUpdate}
 use Rattle.page_fields.specs.Fields.{bytes_of}
@@ -16,33 +17,37 @@ zeros_behind n m v le =
     append_assoc v (replicate (n - length v) 0) (replicate m 0)
     ∙ ap (λ (z : List ℕ). v ++ z) (replicate-append-replicate {A = ℕ} (n - length v) m 0 ∙ ap (λ (k : ℕ). replicate {A = ℕ} k 0) all)
 
+-- how many zeros stand behind the data of an update
+abbrev pub rest_bytes : ℕ
+rest_bytes = UPDATE_BYTES - (48 + LONGEST_DATA)
+
 -- the fields of an update, and what stands behind them
 abbrev pub fields_of : {K : ℕ} → LoggedUpdate K → List ℕ → List ℕ
 fields_of u rest = update_code u.update ∷ note_code u.note ∷ note_attribute u.note ∷ length (update_data u.update)
-    ∷ (bytes_of 4 (note_bucket u.note) ++ (bytes_of 8 (note_boundary u.note) ++ (padded 32 (numbers 8 (updated_key u.update)) ++ (padded 40 (update_data u.update) ++ rest))))
+    ∷ (bytes_of 4 (note_bucket u.note) ++ (bytes_of 8 (note_boundary u.note) ++ (padded 32 (numbers 8 (updated_key u.update)) ++ (padded LONGEST_DATA (update_data u.update) ++ rest))))
 
--- an update, field by field, and eight zeros
-pub update_is : {K : ℕ} (u : LoggedUpdate K) → length (padded 32 (numbers 8 (updated_key u.update))) ≡ 32 → length (update_data u.update) ≤ 40 → update_bytes u ≡ fields_of u (replicate 8 0)
+-- an update, field by field, and the zeros behind
+pub update_is : {K : ℕ} (u : LoggedUpdate K) → length (padded 32 (numbers 8 (updated_key u.update))) ≡ 32 → length (update_data u.update) ≤ LONGEST_DATA → update_bytes u ≡ fields_of u (replicate rest_bytes 0)
 unfolding update_bytes
 update_is u key le =
     let k = padded 32 (numbers 8 (updated_key u.update)) in
-    let v = padded 40 (update_data u.update) in
+    let v = padded LONGEST_DATA (update_data u.update) in
     let n4 = bytes_of 4 (note_bucket u.note) in
     let n8 = bytes_of 8 (note_boundary u.note) in
-    let value : length v ≡ 40 = length-padded 40 (update_data u.update) le in
-    let long : length (n4 ++ (n8 ++ (k ++ v))) ≡ 84 = length-append n4 (n8 ++ (k ++ v)) ∙ omega (arith, length-append n8 (k ++ v), length-append k v, length-bytes_of 4 (note_bucket u.note), length-bytes_of 8 (note_boundary u.note), key, value) in
+    let value : length v ≡ 40 = length-padded LONGEST_DATA (update_data u.update) le in
+    let long : length (n4 ++ (n8 ++ (k ++ v))) ≡ 44 + LONGEST_DATA = length-append n4 (n8 ++ (k ++ v)) ∙ omega (arith, length-append n8 (k ++ v), length-append k v, length-bytes_of 4 (note_bucket u.note), length-bytes_of 8 (note_boundary u.note), key, value) in
     let four : List ℕ = update_code u.update ∷ note_code u.note ∷ note_attribute u.note ∷ length (update_data u.update) ∷ [] in
-    filled_with 96 8 (four ++ (n4 ++ (n8 ++ (k ++ v)))) (omega (arith, long)) ∙ simp append_assoc
+    filled_with UPDATE_BYTES rest_bytes (four ++ (n4 ++ (n8 ++ (k ++ v)))) (omega (arith, long)) ∙ simp append_assoc
 
 -- the front of a page once an update was written behind it, field by field
-pub update_written : {K : ℕ} (u : LoggedUpdate K) (front v a b c d e f : List ℕ) → length (padded 32 (numbers 8 (updated_key u.update))) ≡ 32 → length (update_data u.update) ≤ 40 → v ≡ update_data u.update
+pub update_written : {K : ℕ} (u : LoggedUpdate K) (front v a b c d e f : List ℕ) → length (padded 32 (numbers 8 (updated_key u.update))) ≡ 32 → length (update_data u.update) ≤ LONGEST_DATA → v ≡ update_data u.update
     → a ≡ front ++ update_code u.update ∷ note_code u.note ∷ note_attribute u.note ∷ length v ∷ [] → b ≡ a ++ bytes_of 4 (note_bucket u.note) → c ≡ b ++ bytes_of 8 (note_boundary u.note)
-    → d ≡ c ++ padded 32 (numbers 8 (updated_key u.update)) → e ≡ d ++ v → f ≡ e ++ replicate (48 - length v) 0
+    → d ≡ c ++ padded 32 (numbers 8 (updated_key u.update)) → e ≡ d ++ v → f ≡ e ++ replicate (UPDATE_BYTES - 48 - length v) 0
     → f ≡ front ++ update_bytes u
 update_written u front v a b c d e f key le ev ea eb ec ed ee ef =
-    let tail : padded 40 (update_data u.update) ++ replicate 8 0 ≡ update_data u.update ++ replicate (48 - length (update_data u.update)) 0 = zeros_behind 40 8 (update_data u.update) le in
+    let tail : padded LONGEST_DATA (update_data u.update) ++ replicate rest_bytes 0 ≡ update_data u.update ++ replicate (UPDATE_BYTES - 48 - length (update_data u.update)) 0 = zeros_behind LONGEST_DATA rest_bytes (update_data u.update) le in
     let fields : f ≡ front ++ (update_code u.update ∷ note_code u.note ∷ note_attribute u.note ∷ length (update_data u.update)
-    ∷ (bytes_of 4 (note_bucket u.note) ++ (bytes_of 8 (note_boundary u.note) ++ (padded 32 (numbers 8 (updated_key u.update)) ++ (update_data u.update ++ replicate (48 - length (update_data u.update)) 0))))) =
+    ∷ (bytes_of 4 (note_bucket u.note) ++ (bytes_of 8 (note_boundary u.note) ++ (padded 32 (numbers 8 (updated_key u.update)) ++ (update_data u.update ++ replicate (UPDATE_BYTES - 48 - length (update_data u.update)) 0))))) =
     ef ∙ rw (ee, ed, ec, eb, ea, ev) (simp append_assoc) in
     fields ∙ rw (update_is u key le, tail) refl
 

@@ -1,5 +1,6 @@
 -- What stands in a page where a batch is spelled: each field at its offset.
 use Rattle.std.proofs.Common.{◌≡◌, ◌<◌, ◌≤◌, ◌+◌, ◌-◌, ◌*◌, ◌^◌, ℕ, List, [], ◌∷◌, ◌++◌, length, take, drop, get_or, slice_index, replicate, codes, refl, sym, ap, ◌∙◌, append_assoc, length-append, arith}
+use Rattle.grid_types.specs.declared.sizes.TheConstants.{HEAD_BYTES, LONGEST_DATA, UPDATE_BYTES}
 use Rattle.std.specs.List.{flat_map, All}
 use Rattle.std.proofs.lemmas.List.{drop-drop, take_at}
 use Rattle.grid_types.specs.declared.layout_change.LayoutChange.{LayoutChange}
@@ -17,18 +18,18 @@ use Rattle.grid_model.specs.Spellings.{LoggedBatch, update_code, note_code, note
 use Rattle.grid_model.proofs.Corners.{length-key}
 use Rattle.grid_model.specs.Lawful.{IsLoggedUpdate, StandsWith, IsBatch}
 use Rattle.journal_slots.specs.Reading.{NoteAt, ChangeAt, NotedAt, UpdatesAt, BatchAt}
-use Rattle.journal_slots.proofs.Parts.{update_is, head_is}
+use Rattle.journal_slots.proofs.Parts.{rest_bytes, update_is, head_is}
 
-pub length_update : {K : ℕ} (u : LoggedUpdate K) → K ≤ 4 → IsLoggedUpdate u → length (update_bytes u) ≡ 96
+pub length_update : {K : ℕ} (u : LoggedUpdate K) → K ≤ 4 → IsLoggedUpdate u → length (update_bytes u) ≡ UPDATE_BYTES
 length_update {K} u few fits =
     let k = padded 32 (numbers 8 (updated_key u.update)) in
-    let v = padded 40 (update_data u.update) in
+    let v = padded LONGEST_DATA (update_data u.update) in
     let n4 = bytes_of 4 (note_bucket u.note) in
     let n8 = bytes_of 8 (note_boundary u.note) in
-    let z : List ℕ = replicate 8 0 in
+    let z : List ℕ = replicate rest_bytes 0 in
     let key : length k ≡ 32 = length-key K (updated_key u.update) few fits.update.key in
-    let value : length v ≡ 40 = length-padded 40 (update_data u.update) fits.update.value in
-    let tail : length (n4 ++ (n8 ++ (k ++ (v ++ z)))) ≡ 92 = length-append n4 (n8 ++ (k ++ (v ++ z)))
+    let value : length v ≡ 40 = length-padded LONGEST_DATA (update_data u.update) fits.update.value in
+    let tail : length (n4 ++ (n8 ++ (k ++ (v ++ z)))) ≡ UPDATE_BYTES - 4 = length-append n4 (n8 ++ (k ++ (v ++ z)))
     ∙ omega (arith, length-append n8 (k ++ (v ++ z)), length-append k (v ++ z), length-append v z, length-bytes_of 4 (note_bucket u.note), length-bytes_of 8 (note_boundary u.note), key, value) in
     ap length (update_is u key fits.update.value) ∙ omega (arith, tail)
 
@@ -50,8 +51,8 @@ fields_there K page at u rest few fits e =
     let value = update_data u.update in
     let n4 = bytes_of 4 (note_bucket u.note) in
     let n8 = bytes_of 8 (note_boundary u.note) in
-    let zs : List ℕ = replicate (40 - length value) 0 in
-    let tail = value ++ (zs ++ (replicate 8 0 ++ rest)) in
+    let zs : List ℕ = replicate (LONGEST_DATA - length value) 0 in
+    let tail = value ++ (zs ++ (replicate rest_bytes 0 ++ rest)) in
     let at0 : drop at page ≡ update_code u.update ∷ note_code u.note ∷ note_attribute u.note ∷ length value ∷ (n4 ++ (n8 ++ (key ++ tail))) =
     e ∙ ap (λ (b : List ℕ). b ++ rest) (update_is u (length-key K (updated_key u.update) few fits.update.key) fits.update.value) ∙ simp append_assoc in
     let at1 : drop (at + 1) page ≡ note_code u.note ∷ note_attribute u.note ∷ length value ∷ (n4 ++ (n8 ++ (key ++ tail))) = behind at 1 (at + 1) page (update_code u.update ∷ []) _ at0 refl refl in
@@ -70,11 +71,11 @@ fields_there K page at u rest few fits e =
       bucket = at4 ∙ ap (λ (r : List ℕ). n4 ++ r) (sym at8);
       boundary = at8 ∙ ap (λ (r : List ℕ). n8 ++ r) (sym at16);
       key = corner_there K page (at + 16) (updated_key u.update) tail at16 fits.update.key.count fits.update.key.in_range;
-      value = sym (ap (λ (n : ℕ). take n (drop (at + 48) page)) size ∙ ap (take (length value)) at48 ∙ take_at value (zs ++ (replicate 8 0 ++ rest)) (length value) refl);
+      value = sym (ap (λ (n : ℕ). take n (drop (at + 48) page)) size ∙ ap (take (length value)) at48 ∙ take_at value (zs ++ (replicate rest_bytes 0 ++ rest)) (length value) refl);
     }
 
 -- the change of an update stands where its fields do
-change_there : (K : ℕ) (page : List ℕ) (at : ℕ) (update : Update K) (note : LayoutChange) → length (update_data update) ≤ 40 → FieldsAt K page at (record { update = update; note = note }) → ChangeAt K page at update
+change_there : (K : ℕ) (page : List ℕ) (at : ℕ) (update : Update K) (note : LayoutChange) → length (update_data update) ≤ LONGEST_DATA → FieldsAt K page at (record { update = update; note = note }) → ChangeAt K page at update
 change_there K page at (Put r) note le f = record { kind = f.kind; key = f.key; value = f.value; short = omega (arith, f.size, le) }
 change_there K page at (Remove k) note le f = record { kind = f.kind; key_is = f.key }
 
@@ -107,8 +108,8 @@ noted_there K page at u rest few fits e =
 
 updates_there : (K : ℕ) (page zs : List ℕ) (us : List (LoggedUpdate K)) → K ≤ 4 → All IsLoggedUpdate us → drop 96 page ≡ flat_map update_bytes us ++ zs → UpdatesAt K page us
 updates_there K page zs us few fits e i d lt =
-    let p = part_at update_bytes 96 us zs i d (λ k h. length_update (get_or us k d) few (fits k d h)) lt in
-    noted_there K page (96 + 96 * i) (get_or us i d) p.0 few (fits i d lt) (sym (drop-drop (96 * i) 96 page) ∙ ap (drop (96 * i)) e ∙ p.1)
+    let p = part_at update_bytes UPDATE_BYTES us zs i d (λ k h. length_update (get_or us k d) few (fits k d h)) lt in
+    noted_there K page (HEAD_BYTES + UPDATE_BYTES * i) (get_or us i d) p.0 few (fits i d lt) (sym (drop-drop (UPDATE_BYTES * i) HEAD_BYTES page) ∙ ap (drop (UPDATE_BYTES * i)) e ∙ p.1)
 
 -- the page of a batch is its head and its updates, filled up with zeros
 pub page_is : {K : ℕ} (b : LoggedBatch K) → slot_spelling b ≡ slot_head b ++ padded 4000 (flat_map update_bytes b.updates)

@@ -1,4 +1,5 @@
 use Rattle.std.proofs.Common.{◌≡◌, ◌∙◌, ◌+◌, ◌-◌, ap, take, length, replicate, ℕ, List, [], ◌∷◌, ◌++◌, arith, length-append, refl}
+use Rattle.grid_types.specs.declared.sizes.TheConstants.{UPDATE_BYTES}
 use Rattle.std.proofs.lemmas.List.{length-take-le}
 use Rattle.page_fields.specs.Fields.{bytes_of}
 use Rattle.page_fields.specs.Padded.{padded, numbers}
@@ -22,8 +23,8 @@ returns g c =
     ap (λ (n : ℕ). take n c.set_u32.new.page) (omega arith) ∙ c.set_u32.ensures.front ∙ ap (λ (n : ℕ). take (at + 4) c.put_bytes.new.page ++ bytes_of 4 n) c.bucket.ensures in
     let e : take (at + 16) c.set_u64.new.page ≡ take (at + 8) c.set_u32.new.page ++ bytes_of 8 (note_boundary u.note) =
     ap (λ (n : ℕ). take n c.set_u64.new.page) (omega arith) ∙ c.set_u64.ensures.front ∙ ap (λ (n : ℕ). take (at + 8) c.set_u32.new.page ++ bytes_of 8 n) c.boundary.ensures in
-    let rest : at + 96 - (at + 48 + length v) ≡ 48 - length v = omega arith in
+    let rest : at + UPDATE_BYTES - (at + 48 + length v) ≡ UPDATE_BYTES - 48 - length v = omega arith in
     record {
-      front = update_written u (take at c.args.page.now) v _ _ _ _ (take (at + 48 + length v) c.put_bytes-2.new.page) (take (at + 96) c.put_zeros.new.page) key c.bytes-data.ensures.short c.bytes-data.ensures.value a b e d
+      front = update_written u (take at c.args.page.now) v _ _ _ _ (take (at + 48 + length v) c.put_bytes-2.new.page) (take (at + UPDATE_BYTES) c.put_zeros.new.page) key c.bytes-data.ensures.short c.bytes-data.ensures.value a b e d
           c.put_bytes-2.ensures.front (c.put_zeros.ensures.front ∙ ap (λ (n : ℕ). take (at + 48 + length v) c.put_bytes-2.new.page ++ replicate {A = ℕ} n 0) rest);
     }
