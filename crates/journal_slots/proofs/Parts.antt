@@ -34,7 +34,7 @@ update_is u key le =
     let v = padded LONGEST_DATA (update_data u.update) in
     let n4 = bytes_of 4 (note_bucket u.note) in
     let n8 = bytes_of 8 (note_boundary u.note) in
-    let value : length v ≡ 40 = length-padded LONGEST_DATA (update_data u.update) le in
+    let value : length v ≡ LONGEST_DATA = length-padded LONGEST_DATA (update_data u.update) le in
     let long : length (n4 ++ (n8 ++ (k ++ v))) ≡ 44 + LONGEST_DATA = length-append n4 (n8 ++ (k ++ v)) ∙ omega (arith, length-append n8 (k ++ v), length-append k v, length-bytes_of 4 (note_bucket u.note), length-bytes_of 8 (note_boundary u.note), key, value) in
     let four : List ℕ = update_code u.update ∷ note_code u.note ∷ note_attribute u.note ∷ length (update_data u.update) ∷ [] in
     filled_with UPDATE_BYTES rest_bytes (four ++ (n4 ++ (n8 ++ (k ++ v)))) (omega (arith, long)) ∙ simp append_assoc

@@ -28,7 +28,7 @@ length_update {K} u few fits =
     let n8 = bytes_of 8 (note_boundary u.note) in
     let z : List ℕ = replicate rest_bytes 0 in
     let key : length k ≡ 32 = length-key K (updated_key u.update) few fits.update.key in
-    let value : length v ≡ 40 = length-padded LONGEST_DATA (update_data u.update) fits.update.value in
+    let value : length v ≡ LONGEST_DATA = length-padded LONGEST_DATA (update_data u.update) fits.update.value in
     let tail : length (n4 ++ (n8 ++ (k ++ (v ++ z)))) ≡ UPDATE_BYTES - 4 = length-append n4 (n8 ++ (k ++ (v ++ z)))
     ∙ omega (arith, length-append n8 (k ++ (v ++ z)), length-append k (v ++ z), length-append v z, length-bytes_of 4 (note_bucket u.note), length-bytes_of 8 (note_boundary u.note), key, value) in
     ap length (update_is u key fits.update.value) ∙ omega (arith, tail)
