@@ -5,7 +5,6 @@ use Rattle.grid_model.specs.Images.{HasArea, IsOtherOlder}
 use Rattle.disk_trait.proofs.Calls.{changes_then, changes_wider}
 use Rattle.disk_trait.proofs.Ranges.{outside_then}
 use Rattle.file_roots.specs.Roots.{whole_of}
-
 use Rattle.file_roots.proofs.Headers.{header_two, header_inside, area_above}
 use Rattle.file_roots.proofs.Outcomes.{on_err}
 use Rattle.file_roots.proofs.Stages.{apart_on_header, other_stays, finished, fields_in_header, gate_in_header}

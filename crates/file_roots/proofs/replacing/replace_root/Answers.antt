@@ -7,7 +7,6 @@ use Rattle.disk_trait.proofs.Moments.{joined, weakened}
 use Rattle.disk_trait.proofs.Ranges.{outside_then}
 use Rattle.file_roots.specs.Roots.{whole_of}
 use Rattle.file_roots.specs.Places.{area_at, area_bytes}
-
 use Rattle.file_roots.proofs.Outcomes.{on_ok_also, on_ok_there, on_err, on_err_also}
 use Rattle.file_roots.proofs.Stages.{apart_on_header, apart_on_area, other_stays, gate_in_root, header_in_root}
 use Rattle.file_roots.proofs.Exchange.{one_of_more}
