@@ -4,3 +4,5 @@ pub mod Queries
 pub mod Shapes
 pub mod Pages
 pub mod Halves
+pub mod Ranges
+pub mod PageLists
