@@ -26,3 +26,5 @@ pub mod CutLaws
 pub mod LayoutLaws
 pub mod LoneLaws
 pub mod ScriptLaws
+pub mod Slots
+pub mod Roots

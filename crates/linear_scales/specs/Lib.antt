@@ -3,3 +3,4 @@ pub mod Searches
 pub mod Refusals
 pub mod Sides
 pub mod Queries
+pub mod Roots

@@ -3,10 +3,12 @@
 
 mod boundaries;
 mod refused;
+mod root;
 mod scale;
 mod scales;
 
 pub use refused::ScaleRefused;
+pub use root::{NOWHERE, Root};
 pub use scale::Scale;
 pub use scales::Scales;
 
