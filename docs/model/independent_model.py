@@ -2,7 +2,7 @@
 
 It was written from the rules of the structure in words, apart from the project's own definitions, so that an agreement
 of the two says something. It begins with a file that was just made with a shape and opened, reads a script, and gives
-the printed text, or the number of the first faulty line. Scripts with lines of two clients are outside of it. A slip
+the printed text, or the number of the first faulty line; of a script with lines of two clients it says only that. A slip
 is a small mistake in a rule that can be switched on; a kept script tells a slip where the text with it is another one.
 
     python3 independent_model.py rows|drawn|merges|directed|grammar    prints that set as a file of theorems
@@ -40,6 +40,10 @@ SLIPS = {
 
 class Fault(Exception):
     """A script that is refused; its argument is the number of the first faulty line."""
+
+
+class SeveralClients(Exception):
+    """A script has lines of two clients."""
 
 
 # The grammar of scripts.
@@ -326,7 +330,7 @@ def play(shape, script, slips=()):
     requests = read_script(shape.k, script)
     clients = {client for client, _ in requests}
     if len(clients) > 1:
-        raise NotImplementedError("lines of two clients are outside of this model")
+        raise SeveralClients
     grid = Grid(shape, slips)
     lines = [f"client {client}" for client in clients]
     for _, asked in requests:
@@ -335,11 +339,13 @@ def play(shape, script, slips=()):
 
 
 def run(shape, script, slips=()):
-    """('ok', printed text), or ('fault', number of the first faulty line)."""
+    """('ok', printed text), ('fault', number of the first faulty line), or ('several',) where several clients speak."""
     try:
         return "ok", play(shape, script, slips)[1]
     except Fault as fault:
         return "fault", fault.args[0]
+    except SeveralClients:
+        return "several",
 
 
 if __name__ == "__main__":

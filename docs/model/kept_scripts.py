@@ -181,6 +181,7 @@ UNTOLD = [
 ]
 # Name, K, script, and the faulty line where there is one; these were written by hand.
 GRAMMAR = [
+    ("two-clients", 1, b"put 1 -\nclient 2\nget 1\n", None),
     ("leading-zero", 2, b"put 1,1 -\nput 01,1 -\n", 2),
     ("two-zeros", 1, b"get 0\nget 00\n", 2),
     ("number-too-large", 1, b"get 18446744073709551615\nget 18446744073709551616\n", 2),
@@ -264,7 +265,8 @@ def kept():
         sets["directed"].append((name, shape, encoded(script), result))
     for name, k, script, fault in GRAMMAR:
         result = run(Shape(k, 2, 64, 8), script)
-        assert result[0] == "ok" if fault is None else result == ("fault", fault), name
+        wanted = result[:1] in (("ok",), ("several",)) if fault is None else result == ("fault", fault)
+        assert wanted and (result == ("several",)) == (name == "two-clients"), name
         sets["grammar"].append(("grammar-" + name, Shape(k, 2, 64, 8), script, result))
     return sets, comments
 
@@ -300,7 +302,8 @@ def literal(script):
 def theorem(name, shape, script, result):
     fields = "; ".join(f"{field} = {value}" for field, value in shape._asdict().items())
     listed = literal(script)
-    printed = f"Ok ({literal(result[1].encode())})" if result[0] == "ok" else f"Err {result[1]}"
+    printed = {"ok": lambda: f"Prints ({literal(result[1].encode())})", "fault": lambda: f"Faults {result[1]}",
+               "several": lambda: "Several"}[result[0]]()
     return (f"{name} : prints (record {{ {fields} }}) {listed if listed == '[]' else f'({listed})'}\n"
             f"    ≡ {printed}\nunfolding computing\n{name} = refl\n")
 
@@ -316,11 +319,12 @@ TITLES = {
 
 def theorem_file(key, items, comments):
     body = "\n".join(theorem(*item) for item in items)
-    used = [name for name in ("◌≡◌", "◌∷◌", "◌++◌", "[]", "Ok", "Err", "codes", "refl")
-            if re.search(r"(?<![\w\"])" + re.escape(name.strip("◌")) + r"(?![\w\"])", re.sub(r'"(\\.|[^"\\])*"', "", body))]
+    bare = re.sub(r'"(\\.|[^"\\])*"', "", body)
+    used, answers = ([name for name in names if re.search(r"(?<![\w\"])" + re.escape(name.strip("◌")) + r"(?![\w\"])", bare)]
+                     for names in (("◌≡◌", "◌∷◌", "◌++◌", "[]", "codes", "refl"), ("Prints", "Faults", "Several")))
     return "\n".join([TITLES[key]] + comments + [
         f"use Rattle.std.specs.Prelude.{{{', '.join(used)}}}", "use Rattle.grid_model.specs.Computing.{computing}",
-        "use Rattle.grid_model.specs.Transcripts.{prints}", "", body])
+        f"use Rattle.grid_model.specs.Transcripts.{{prints, {', '.join(answers)}}}", "", body])
 
 
 def slip_table(sets):

@@ -10,14 +10,16 @@ use Rattle.grid_types.specs.declared.layout_change.LayoutChange.{LayoutChange}
 use Rattle.grid_types.specs.declared.layout_change.LayoutChange.TheVariants as note
 use Rattle.grid_types.specs.declared.shape.Shape.{Shape}
 use Rattle.grid_types.specs.declared.update.Record.{Record}
+use Rattle.grid_types.specs.declared.update.Update.{Update}
 use Rattle.grid_types.specs.declared.update.Update.TheVariants.{Put, Remove}
 use Rattle.grid_types.specs.Keys.{key_cmp, IsKey}
 use Rattle.grid_types.specs.Regions.{contains}
-use Rattle.grid_model.specs.Tables.{Table, IsTable, get, with_data, effect}
+use Rattle.grid_model.specs.Tables.{Table, IsData, IsTableOf, get, with_data, effect}
+use Rattle.grid_model.specs.Lawful.{IsUpdateOf}
 use Rattle.grid_model.specs.Layouts.{BucketBox, Layout, box, holder, records_inside, EachBox}
 use Rattle.grid_model.specs.Cuts.{cut}
 use Rattle.grid_model.specs.Notes.{put_note, put_note_at, cut_note, keys_with}
-use Rattle.grid_model.specs.LayoutLaws.{HasKeys, StandsOver}
+use Rattle.grid_model.specs.LayoutLaws.{StandsOver}
 use Rattle.grid_model.proofs.TableLaws.{equal_order, effect-table, alike}
 use Rattle.grid_model.proofs.Boxes.{one-value, some-not-none}
 use Rattle.grid_model.proofs.Holders.{holder-box}
@@ -26,34 +28,57 @@ use Rattle.grid_model.proofs.RegionCounts.{count-put, count-put-outside, count-p
 one_key : (k q : List ℕ) → eq_by_cmp key_cmp k q ≡ true → k ≡ q
 one_key k q e = slice_cmp-IsAntisymmetric nat_cmp-IsAntisymmetric k q (equal_order (key_cmp k q) e)
 
--- a put of a key keeps a table's keys lawful
-pub keys-after-put : {K : ℕ} (t : Table) (r : Record K) → IsKey K r.key.numbers → HasKeys K t → HasKeys K (effect t (Put r))
+-- what each entry of a table is, each is after a put of an entry that is so
+pub each-after-put : {K : ℕ} (P : List ℕ → List ℕ → Type 0) (t : Table) (r : Record K) → P r.key.numbers r.value → ((k d : List ℕ) → get t k ≡ Some d → P k d) → (k d : List ℕ) → get (effect t (Put r)) k ≡ Some d → P k d
 unfolding effect
-keys-after-put {K} t r key keys q d e = by (eq_by_cmp key_cmp q r.key.numbers) refl
+each-after-put {K} P t r new each q d e = by (eq_by_cmp key_cmp q r.key.numbers) refl
   where
-    by : (b : Bool) → eq_by_cmp key_cmp q r.key.numbers ≡ b → IsKey K q
-    by true same = subst (IsKey K) (sym (one_key q r.key.numbers same)) key
-    by false differ = keys q d (ap (λ b. cond b (Some r.value) (get t q)) (sym differ) ∙ sym (find-put key_cmp nat_list_cmp_total q r.key.numbers r.value t) ∙ e)
+    is : cond (eq_by_cmp key_cmp q r.key.numbers) (Some r.value) (get t q) ≡ Some d
+    is = sym (find-put key_cmp nat_list_cmp_total q r.key.numbers r.value t) ∙ e
 
--- and so does a removal
-pub keys-after-removal : {K : ℕ} (t : Table) (k : Key K) → HasKeys K t → HasKeys K (effect t (Remove k))
+    by : (b : Bool) → eq_by_cmp key_cmp q r.key.numbers ≡ b → P q d
+    by true same =
+        let value : r.value ≡ d = one-value r.value d (ap (λ b. cond b (Some r.value) (get t q)) (sym same) ∙ is) in
+        subst (P q) value (subst (λ k. P k r.value) (sym (one_key q r.key.numbers same)) new)
+    by false differ = each q d (ap (λ b. cond b (Some r.value) (get t q)) (sym differ) ∙ is)
+
+-- and after a removal
+pub each-after-removal : {K : ℕ} (P : List ℕ → List ℕ → Type 0) (t : Table) (k : Key K) → ((q d : List ℕ) → get t q ≡ Some d → P q d) → (q d : List ℕ) → get (effect t (Remove k)) q ≡ Some d → P q d
 unfolding effect
-keys-after-removal {K} t k keys q d e = by (eq_by_cmp key_cmp k.numbers q) refl
+each-after-removal {K} P t k each q d e = by (eq_by_cmp key_cmp k.numbers q) refl
   where
     is : cond (not (eq_by_cmp key_cmp k.numbers q)) (get t q) None ≡ Some d
     is = sym (find-where_key key_cmp (λ x. not (eq_by_cmp key_cmp k.numbers x)) q (alike (λ x. not (eq_by_cmp key_cmp k.numbers x)) q) t) ∙ e
 
-    by : (b : Bool) → eq_by_cmp key_cmp k.numbers q ≡ b → IsKey K q
+    by : (b : Bool) → eq_by_cmp key_cmp k.numbers q ≡ b → P q d
     by true same = absurd (some-not-none d (sym is ∙ ap (λ b. cond (not b) (get t q) None) same))
-    by false differ = keys q d (ap (λ b. cond (not b) (get t q) None) (sym differ) ∙ is)
+    by false differ = each q d (ap (λ b. cond (not b) (get t q) None) (sym differ) ∙ is)
+
+-- an update keeps a table of K attributes
+pub table-after : {K : ℕ} (t : Table) (u : Update K) → IsTableOf K t → IsUpdateOf K u → IsTableOf K (effect t u)
+table-after {K} t (Put r) h is = record {
+  table = effect-table t (Put r) h.table;
+  keys = each-after-put (λ k d. IsKey K k) t r is.key h.keys;
+  values = each-after-put (λ k d. IsData d) t r is.value h.values;
+}
+table-after {K} t (Remove k) h is = record {
+  table = effect-table t (Remove k) h.table;
+  keys = each-after-removal (λ q d. IsKey K q) t k h.keys;
+  values = each-after-removal (λ q d. IsData d) t k h.values;
+}
+
+-- the table over which a layout stands
+pub its-table : {K : ℕ} (shape : Shape) (L : Layout K) (t : Table) → StandsOver shape L t → IsTableOf K t
+its-table shape L t h = record { table = h.table; keys = h.keys; values = h.values }
 
 -- a layout stands over another table, where the boxes have room for its records
-pub kept-layout : {K : ℕ} (shape : Shape) (L : Layout K) (t s : Table) → StandsOver shape L t → IsTable s → HasKeys K s → EachBox L (λ n b. length (records_inside s b.region) ≤ shape.capacity) → StandsOver shape L s
-kept-layout shape L t s h table keys room = record {
+pub kept-layout : {K : ℕ} (shape : Shape) (L : Layout K) (t s : Table) → StandsOver shape L t → IsTableOf K s → EachBox L (λ n b. length (records_inside s b.region) ≤ shape.capacity) → StandsOver shape L s
+kept-layout shape L t s h is room = record {
   lawful = h.lawful;
   attributes = h.attributes;
-  table = table;
-  keys = keys;
+  table = is.table;
+  keys = is.keys;
+  values = is.values;
   sound = record {
     attributes = h.sound.attributes;
     scales = h.sound.scales;
@@ -71,9 +96,9 @@ kept-layout shape L t s h table keys room = record {
 }
 
 -- a removal without a merge leaves the layout
-pub remove-plain : {K : ℕ} (shape : Shape) (L : Layout K) (t : Table) (k : Key K) → StandsOver shape L t → StandsOver shape L (effect t (Remove k))
+pub remove-plain : {K : ℕ} (shape : Shape) (L : Layout K) (t : Table) (k : Key K) → StandsOver shape L t → IsUpdateOf K (Remove k) → StandsOver shape L (effect t (Remove k))
 unfolding effect
-remove-plain shape L t k h = kept-layout shape L t (effect t (Remove k)) h (effect-table t (Remove k) h.table) (keys-after-removal t k h.keys) (λ n b there.
+remove-plain shape L t k h is = kept-layout shape L t (effect t (Remove k)) h (table-after t (Remove k) (its-table shape L t h) is) (λ n b there.
     let least = count-without (contains b.region) k.numbers t in
     let room = h.sound.room n b there in
     omega (arith, least, room))
@@ -131,9 +156,9 @@ put-never-merges {K} shape L t k m e = by (holder L k) e
     by (Some x) e = no x.1 (noted shape L t k x.1 (note.Merge m) e)
 
 -- a put without a cut leaves the layout
-pub put-plain : {K : ℕ} (shape : Shape) (L : Layout K) (t : Table) (r : Record K) → StandsOver shape L t → IsKey K r.key.numbers → put_note shape L t r.key.numbers ≡ Some note.Plain → StandsOver shape L (effect t (Put r))
+pub put-plain : {K : ℕ} (shape : Shape) (L : Layout K) (t : Table) (r : Record K) → StandsOver shape L t → IsUpdateOf K (Put r) → put_note shape L t r.key.numbers ≡ Some note.Plain → StandsOver shape L (effect t (Put r))
 unfolding effect
-put-plain {K} shape L t r h key e = kept-layout shape L t (effect t (Put r)) h (effect-table t (Put r) h.table) (keys-after-put t r key h.keys) (λ n b there. room n b there (noted shape L t r.key.numbers p.here note.Plain p.noted))
+put-plain {K} shape L t r h is e = kept-layout shape L t (effect t (Put r)) h (table-after t (Put r) (its-table shape L t h) is) (λ n b there. room n b there (noted shape L t r.key.numbers p.here note.Plain p.noted))
   where
     p : PutBox shape L t r.key.numbers note.Plain
     p = put-box shape L t r.key.numbers note.Plain h e

@@ -11,9 +11,9 @@ use Rattle.grid_types.specs.declared.shape.Shape.{Shape}
 use Rattle.grid_types.specs.declared.update.Record.{Record}
 use Rattle.grid_types.specs.declared.update.Update.{Update}
 use Rattle.grid_types.specs.declared.update.Update.TheVariants.{Put, Remove}
-use Rattle.grid_types.specs.Keys.{IsKey}
 use Rattle.grid_types.specs.Regions.{contains, IsRegion}
-use Rattle.grid_model.specs.Tables.{Table, with_data, without, effect}
+use Rattle.grid_model.specs.Tables.{Table, IsTableOf, with_data, without, effect}
+use Rattle.grid_model.specs.Lawful.{IsUpdateOf}
 use Rattle.grid_model.specs.Scales.{scale_of, is_drawn}
 use Rattle.grid_model.specs.Layouts.{BucketBox, Layout, box, holder, records_inside, unused, IsDrawn}
 use Rattle.grid_model.specs.Cuts.{cut}
@@ -22,7 +22,6 @@ use Rattle.grid_model.specs.Neighbours.{partners}
 use Rattle.grid_model.specs.ScaleLaws.{PartsNumbers}
 use Rattle.grid_model.specs.CutLaws.{CutsBest}
 use Rattle.grid_model.specs.LayoutLaws.{StandsOver, Fits, KeepsSound}
-use Rattle.grid_model.proofs.TableLaws.{effect-table}
 use Rattle.grid_model.proofs.Found.{one-number, two-numbers}
 use Rattle.grid_model.proofs.LeastUnused.{least-unused}
 use Rattle.grid_model.proofs.RegionCounts.{count-put-outside}
@@ -30,7 +29,7 @@ use Rattle.grid_model.proofs.CutRegions.{above-low, up-to-high}
 use Rattle.grid_model.proofs.CutScales.{AreScales, AreAfter, cut-scales, drawn-below, drawn-above}
 use Rattle.grid_model.proofs.CutBoxes.{each-part, split-numbered, length-split, split-covers, split-apart}
 use Rattle.grid_model.proofs.CutParts.{Cuts, cuts}
-use Rattle.grid_model.proofs.LayoutKept.{keys-after-put, remove-plain, put-plain, put-never-merges, PutBox, put-box, LoggedUpdate, There, HasRoom, IsCut, noted}
+use Rattle.grid_model.proofs.LayoutKept.{table-after, its-table, remove-plain, put-plain, put-never-merges, PutBox, put-box, LoggedUpdate, There, HasRoom, IsCut, noted}
 use Rattle.grid_model.proofs.NewLayout.{new-stands}
 
 -- what a list of numbers with one other number has at a place
@@ -41,7 +40,7 @@ set_each P xs a v i records_inside here there = by (eq_by_cmp nat_cmp i a) refl
     by true e = subst (λ j. P j (slice_index (slice_set xs a v) j)) (sym (one-number i a e)) (subst (P a) (sym (get_or-set_same xs a v 0 records_inside)) here)
     by false e = subst (P i) (sym (get_or-set_other xs a i v 0 (two-numbers i a e))) there
 
-module _ {K : ℕ} (numbers : PartsNumbers) (shape : Shape) (L : Layout K) (t : Table) (r : Record K) (n : ℕ) (b : BucketBox K) (c : Cut) (h : StandsOver shape L t) (key : IsKey K r.key.numbers) (there : box L n ≡ Some b)
+module _ {K : ℕ} (numbers : PartsNumbers) (shape : Shape) (L : Layout K) (t : Table) (r : Record K) (n : ℕ) (b : BucketBox K) (c : Cut) (h : StandsOver shape L t) (lawful : IsUpdateOf K (Put r)) (there : box L n ≡ Some b)
     (has : contains b.region r.key.numbers ≡ true) (is : Cuts shape L.scales b t r.key.numbers c) where
   scales : AreScales K shape L.scales
   scales = record { attributes = h.sound.attributes; ascend = h.sound.scales; few_boundaries = h.sound.few_boundaries; few_cells = h.sound.few_cells }
@@ -125,14 +124,18 @@ module _ {K : ℕ} (numbers : PartsNumbers) (shape : Shape) (L : Layout K) (t : 
       let one_more : length (split L n b c (unused L)).boxes ≡ length L.boxes + 1 = length-split L n b c (unused L) there none h.sound.numbered in
       omega (arith, few, one_more, fits)
 
+  after_put : IsTableOf K (effect t (Put r))
+  after_put = table-after t (Put r) (its-table shape L t h) lawful
+
   -- a layout with a box cut stands over the table after the put
   split-stands : Fits shape (split L n b c (unused L)) → StandsOver shape (split L n b c (unused L)) (effect t (Put r))
   unfolding split effect
   split-stands fits = record {
     lawful = h.lawful;
     attributes = h.attributes;
-    table = effect-table t (Put r) h.table;
-    keys = keys-after-put t r key h.keys;
+    table = after_put.table;
+    keys = after_put.keys;
+    values = after_put.values;
     sound = record {
       attributes = after_cut.lawful.attributes;
       scales = after_cut.lawful.ascend;
@@ -165,9 +168,9 @@ after-plain {K} L k = by (holder L k)
     by (Some e) = refl
 
 -- a put with a cut keeps a layout sound
-pub put-cut : {K : ℕ} → PartsNumbers → CutsBest K → (shape : Shape) (L : Layout K) (t : Table) (r : Record K) (c : Cut) (right : ℕ) → StandsOver shape L t → IsKey K r.key.numbers
+pub put-cut : {K : ℕ} → PartsNumbers → CutsBest K → (shape : Shape) (L : Layout K) (t : Table) (r : Record K) (c : Cut) (right : ℕ) → StandsOver shape L t → IsUpdateOf K (Put r)
     → put_note shape L t r.key.numbers ≡ Some (note.Cut c right) → Fits shape (after_note L r.key.numbers (note.Cut c right)) → StandsOver shape (after_note L r.key.numbers (note.Cut c right)) (effect t (Put r))
-put-cut {K} numbers best shape L t r c right h key e fits = by (noted shape L t r.key.numbers p.here (note.Cut c right) p.noted)
+put-cut {K} numbers best shape L t r c right h lawful e fits = by (noted shape L t r.key.numbers p.here (note.Cut c right) p.noted)
   where
     p : PutBox shape L t r.key.numbers (note.Cut c right)
     p = put-box shape L t r.key.numbers (note.Cut c right) h e
@@ -177,7 +180,7 @@ put-cut {K} numbers best shape L t r c right h key e fits = by (noted shape L t 
 
     stands : (d : Cut) → cut shape L.scales p.here (keys_with t p.here.region r.key.numbers) ≡ Some d → Fits shape (after_note L r.key.numbers (cut_note L d)) → StandsOver shape (after_note L r.key.numbers (cut_note L d)) (effect t (Put r))
     stands d is enough = subst (λ (M : Layout K). StandsOver shape M (effect t (Put r))) (sym (held (cut_note L d)))
-        (split-stands numbers shape L t r p.number p.here d h key p.there p.has (cuts best shape L.scales p.here t r.key.numbers d h.sound.attributes (h.sound.regions p.number p.here p.there) is) (subst (λ (M : Layout K). Fits shape M) (held (cut_note L d)) enough))
+        (split-stands numbers shape L t r p.number p.here d h lawful p.there p.has (cuts best shape L.scales p.here t r.key.numbers d h.sound.attributes (h.sound.regions p.number p.here p.there) is) (subst (λ (M : Layout K). Fits shape M) (held (cut_note L d)) enough))
 
     by : LoggedUpdate shape L t r.key.numbers p.here (note.Cut c right) → StandsOver shape (after_note L r.key.numbers (note.Cut c right)) (effect t (Put r))
     by (There same _) = absurd (cc)
@@ -198,23 +201,23 @@ merges_only {K} shape L t k c right h = by (holder L k) h
 
 -- lawful notes keep layouts sound, where merges do
 pub keeps-sound : {K : ℕ} → PartsNumbers → CutsBest K
-    → ((shape : Shape) (L : Layout K) (t : Table) (k : Key K) (m : ℕ) → StandsOver shape L t → Contains (merges shape L t k.numbers) (note.Merge m) → StandsOver shape (after_note L k.numbers (note.Merge m)) (effect t (Remove k)))
+    → ((shape : Shape) (L : Layout K) (t : Table) (k : Key K) (m : ℕ) → StandsOver shape L t → IsUpdateOf K (Remove k) → Contains (merges shape L t k.numbers) (note.Merge m) → StandsOver shape (after_note L k.numbers (note.Merge m)) (effect t (Remove k)))
     → KeepsSound K
 keeps-sound {K} numbers best merge = record { new = new-stands; after = kept }
   where
     plain : (shape : Shape) (L : Layout K) (k : List ℕ) (s : Table) → StandsOver shape L s → StandsOver shape (after_note L k note.Plain) s
     plain shape L k s h = subst (λ (M : Layout K). StandsOver shape M s) (sym (after-plain L k)) h
 
-    removed : (shape : Shape) (L : Layout K) (t : Table) (k : Key K) (n : LayoutChange) → StandsOver shape L t → (n ≡ note.Plain) ⊎ Contains (merges shape L t k.numbers) n → StandsOver shape (after_note L k.numbers n) (effect t (Remove k))
-    removed shape L t k note.Plain h e = plain shape L k.numbers (effect t (Remove k)) (remove-plain shape L t k h)
-    removed shape L t k (note.Cut c right) h (inl e) = absurd (cc)
-    removed shape L t k (note.Cut c right) h (inr e) = absurd (merges_only shape L t k.numbers c right e)
-    removed shape L t k (note.Merge m) h (inl e) = absurd (cc)
-    removed shape L t k (note.Merge m) h (inr e) = merge shape L t k m h e
+    removed : (shape : Shape) (L : Layout K) (t : Table) (k : Key K) (n : LayoutChange) → StandsOver shape L t → IsUpdateOf K (Remove k) → (n ≡ note.Plain) ⊎ Contains (merges shape L t k.numbers) n → StandsOver shape (after_note L k.numbers n) (effect t (Remove k))
+    removed shape L t k note.Plain h is e = plain shape L k.numbers (effect t (Remove k)) (remove-plain shape L t k h is)
+    removed shape L t k (note.Cut c right) h is (inl e) = absurd (cc)
+    removed shape L t k (note.Cut c right) h is (inr e) = absurd (merges_only shape L t k.numbers c right e)
+    removed shape L t k (note.Merge m) h is (inl e) = absurd (cc)
+    removed shape L t k (note.Merge m) h is (inr e) = merge shape L t k m h is e
 
-    kept : (shape : Shape) (L : Layout K) (t : Table) (u : Update K) (n : LayoutChange) → StandsOver shape L t → IsKey K (updated_key u) → IsLawfulNote shape L t u n
+    kept : (shape : Shape) (L : Layout K) (t : Table) (u : Update K) (n : LayoutChange) → StandsOver shape L t → IsUpdateOf K u → IsLawfulNote shape L t u n
         → Fits shape (after_note L (updated_key u) n) → StandsOver shape (after_note L (updated_key u) n) (effect t u)
-    kept shape L t (Put r) note.Plain h key e fits = plain shape L r.key.numbers (effect t (Put r)) (put-plain shape L t r h key e)
-    kept shape L t (Put r) (note.Cut c right) h key e fits = put-cut numbers best shape L t r c right h key e fits
-    kept shape L t (Put r) (note.Merge m) h key e fits = absurd (put-never-merges shape L t r.key.numbers m e)
-    kept shape L t (Remove k) n h key e fits = removed shape L t k n h e.1
+    kept shape L t (Put r) note.Plain h is e fits = plain shape L r.key.numbers (effect t (Put r)) (put-plain shape L t r h is e)
+    kept shape L t (Put r) (note.Cut c right) h is e fits = put-cut numbers best shape L t r c right h is e fits
+    kept shape L t (Put r) (note.Merge m) h is e fits = absurd (put-never-merges shape L t r.key.numbers m e)
+    kept shape L t (Remove k) n h is e fits = removed shape L t k n h is e.1

@@ -37,7 +37,10 @@ pub mod CutParts
 pub mod LayoutLaws
 pub mod Swapping
 pub mod States
+pub mod Carrying
 pub mod Prepending
+pub mod Passing
+pub mod Renaming
 pub mod Telling
 pub mod Together
 pub mod Reading

@@ -1,16 +1,19 @@
 -- A listing has exactly the matching records, and a history makes its tables one entry after the other.
-use Rattle.std.proofs.Common.{◌≡◌, ◌≤◌, ◌+◌, ◌-◌, ℕ, cond, List, [], ◌∷◌, ◌++◌, take, fold, length, None, refl, sym, ap, ◌∙◌, arith, length-append, take_all, take-take}
+use Rattle.std.proofs.Common.{◌≡◌, ◌≤◌, ◌+◌, ◌-◌, ℕ, cond, List, [], ◌∷◌, ◌++◌, take, fold, length, None, refl, sym, ap, ◌∙◌, arith, All, length-append, take_all, take-take}
+use Rattle.std.proofs.lemmas.List.Elements.{All-head, All-tail, All-take}
 use Rattle.std.specs.FinMap.Entries.{is_sorted-where_key, find-where_key}
 use Rattle.grid_types.specs.declared.update.Update.TheVariants.{Put, Remove}
 use Rattle.grid_types.specs.declared.update.Entry.{Entry}
 use Rattle.grid_types.specs.declared.query.Query.{Query}
 use Rattle.grid_types.specs.Keys.{key_cmp}
 use Rattle.grid_types.specs.Queries.{matches}
-use Rattle.grid_model.specs.Tables.{Table, IsTable, get, effect}
+use Rattle.grid_model.specs.Tables.{Table, IsTable, IsTableOf, get, effect}
+use Rattle.grid_model.specs.Lawful.{IsUpdateOf}
 use Rattle.grid_model.specs.Listings.{rows}
-use Rattle.grid_model.specs.Histories.{History, front, state_at, entry_effect, GoesOn}
+use Rattle.grid_model.specs.Histories.{History, IsHistory, front, state_at, entry_effect, GoesOn}
 use Rattle.grid_model.specs.TableLaws.{extended, MakesStates}
 use Rattle.grid_model.proofs.TableLaws.{alike, update-there, removal-there}
+use Rattle.grid_model.proofs.LayoutKept.{table-after}
 
 pub rows-table : {K : ℕ} (t : Table) (q : Query K) → IsTable t → IsTable (rows t q)
 unfolding rows
@@ -48,6 +51,15 @@ module _ {K : ℕ} where
       ∙ ap (λ m. fold entry_effect h.base (take (n - m) later.entries)) g.from
       ∙ ap (fold entry_effect h.base) (sym (take-take (n - h.from) (length h.entries) later.entries (omega (arith, l))) ∙ ap (take (n - h.from)) g.beginning)
 
+  -- the tables are of K attributes, from such a table on, where each update is one
+  tables-from : (t : Table) (es : List (Entry K)) → IsTableOf K t → All (λ e. IsUpdateOf K e.update) es → IsTableOf K (fold entry_effect t es)
+  tables-from t [] h is = h
+  tables-from t (e ∷ es) h is = tables-from (effect t e.update) es (table-after t e.update h (All-head (λ (x : Entry K). IsUpdateOf K x.update) e es is)) (All-tail (λ (x : Entry K). IsUpdateOf K x.update) e es is)
+
+  tables : (h : History K) (n : ℕ) → IsHistory h → IsTableOf K (state_at h n)
+  unfolding state_at
+  tables h n is = tables-from h.base (take (n - h.from) h.entries) is.base (All-take (λ (e : Entry K). IsUpdateOf K e.update) (n - h.from) h.entries is.updates)
+
   -- a history makes its tables one entry after the other
   pub makes-states : MakesStates K
   makes-states = record {
@@ -56,4 +68,5 @@ module _ {K : ℕ} where
     put_there = λ h caller r. ap (λ t. get t r.key.numbers) (next h (record { caller = caller; update = Put r })) ∙ update-there (state_at h (front h)) r;
     removal_there = λ h caller k. ap (λ t. get t k.numbers) (next h (record { caller = caller; update = Remove k })) ∙ removal-there (state_at h (front h)) k;
     before = before;
+    tables = tables;
   }

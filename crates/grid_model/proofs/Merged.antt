@@ -11,16 +11,17 @@ use Rattle.grid_types.specs.declared.layout_change.LayoutChange.TheVariants as n
 use Rattle.grid_types.specs.Keys.{IsKey}
 use Rattle.grid_types.specs.Regions.{contains, IsRegion}
 use Rattle.grid_model.specs.Tables.{Table, without, effect}
+use Rattle.grid_model.specs.Lawful.{IsUpdateOf}
 use Rattle.grid_model.specs.Layouts.{BucketBox, Layout, box, holder, records_inside, EachBox, Apart, IsDrawn, IsSound}
 use Rattle.grid_model.specs.Scales.{scale_of}
 use Rattle.grid_model.specs.Neighbours.{make_a_box, hull, fit_together}
 use Rattle.grid_model.specs.Notes.{updated_key, together, joined, after_note, merges, IsLawfulNote}
 use Rattle.grid_model.specs.LayoutLaws.{StandsOver, IsMerge}
-use Rattle.grid_model.proofs.TableLaws.{effect-table}
 use Rattle.grid_model.proofs.Boxes.{one-value, some-not-none, one-box}
 use Rattle.grid_model.proofs.Holders.{holder-finds, holder-box}
 use Rattle.grid_model.proofs.Hulls.{hull-contains, hull-region, hull-drawn}
-use Rattle.grid_model.proofs.Records.{at-most-both, no-more-without, had-before}
+use Rattle.grid_model.proofs.Records.{at-most-both, no-more-without}
+use Rattle.grid_model.proofs.LayoutKept.{table-after, its-table}
 use Rattle.grid_model.proofs.Joined.{after-merge, is-merge}
 use Rattle.grid_model.proofs.Partners.{IsMergeOf, each-merge, no-merge-of-put}
 
@@ -114,16 +115,18 @@ module _ {K : ℕ} (shape : Shape) (L : Layout K) (t : Table) (k : List ℕ) (st
   }
 
 -- a remove with a lawful merge keeps the layout sound
-pub remove-merge : {K : ℕ} (shape : Shape) (L : Layout K) (t : Table) (k : Key K) (m : ℕ) → StandsOver shape L t → Contains (merges shape L t k.numbers) (note.Merge m)
+pub remove-merge : {K : ℕ} (shape : Shape) (L : Layout K) (t : Table) (k : Key K) (m : ℕ) → StandsOver shape L t → IsUpdateOf K (Remove k) → Contains (merges shape L t k.numbers) (note.Merge m)
     → StandsOver shape (after_note L k.numbers (note.Merge m)) (effect t (Remove k))
 unfolding effect
-remove-merge shape L t k m stands h =
+remove-merge shape L t k m stands is h =
+    let after_remove = table-after t (Remove k) (its-table shape L t stands) is in
     let w = each-merge shape L t k.numbers m stands.sound.numbered h in
     subst (λ M. StandsOver shape M (without t k.numbers)) (sym (after-merge L k.numbers w.number w.here m w.other w.holds w.beside)) (record {
       lawful = stands.lawful;
       attributes = stands.attributes;
-      table = effect-table t (Remove k) stands.table;
-      keys = λ q d e. stands.keys q d (had-before t k.numbers q d e);
+      table = after_remove.table;
+      keys = after_remove.keys;
+      values = after_remove.values;
       sound = sound shape L t k.numbers stands w.number w.here m w.other w.there w.beside w.differ w.make w.fit;
     })
 

@@ -86,6 +86,7 @@ new-stands {K} shape lawful attributes = record {
   attributes = attributes;
   table = tt;
   keys = λ k d e. absurd (some-not-none d (sym e));
+  values = λ k d e. absurd (some-not-none d (sym e));
   sound = record {
     attributes = length-replicate K [];
     scales = λ a h. subst (λ s. IsTrue (is_scale s)) (sym (no_boundary a h)) refl;

@@ -1,23 +1,21 @@
 -- A history with one more entry in front: later places have the same tables and layouts, and later answers stay legal.
-use Rattle.std.proofs.Common.{◌≡◌, ◌<◌, ◌≤◌, ◌+◌, ◌-◌, ℕ, zero, suc, Bool, true, false, cond, List, ◌∷◌, map, take, fold, zip, length, Option, Some, None, refl, sym, ap, subst, ◌∙◌, arith, true≢false, slice_get, nat_lt, ltb-true, lt-ltb}
+use Rattle.std.proofs.Common.{◌≡◌, ◌<◌, ◌≤◌, ◌+◌, ◌-◌, ℕ, zero, suc, Bool, true, false, cond, ◌∷◌, take, fold, zip, Some, None, refl, sym, ap, subst, ◌∙◌, arith, true≢false, slice_get, nat_lt, ltb-true, lt-ltb}
 use Rattle.std.specs.Option.{is_some}
 use Rattle.grid_types.specs.declared.shape.Shape.{Shape}
 use Rattle.grid_types.specs.declared.update.Update.{Update}
-use Rattle.grid_types.specs.declared.update.Update.TheVariants.{Put, Remove}
 use Rattle.grid_types.specs.declared.update.Entry.{Entry}
 use Rattle.grid_types.specs.declared.layout_change.LayoutChange.{LayoutChange}
 use Rattle.grid_types.specs.declared.request.Request.{Request}
 use Rattle.grid_types.specs.declared.request.Request.TheVariants as ask
 use Rattle.grid_types.specs.declared.request.Reply.{Reply}
 use Rattle.grid_types.specs.declared.request.Reply.TheVariants as told
-use Rattle.grid_model.specs.Tables.{Table, get}
+use Rattle.grid_model.specs.Tables.{Table}
 use Rattle.grid_model.specs.Layouts.{Layout}
-use Rattle.grid_model.specs.Listings.{rows}
-use Rattle.grid_model.specs.Lone.{record_of}
 use Rattle.grid_model.specs.Notes.{IsLawfulNote}
 use Rattle.grid_model.specs.Histories.{History, Layouts, IsPlace, IsNoted, entry_at, entry_effect, layout_effect, state_at, layout_at}
 use Rattle.grid_model.proofs.Boxes.{one-value}
-use Rattle.grid_model.specs.Answers.{IsReading, IsUpdate, IsRemoval, IsCounted, IsLegal}
+use Rattle.grid_model.specs.Answers.{CallTrail, IsAnswer, IsCounted, SaysOfLayout, IsLegal}
+use Rattle.grid_model.proofs.Carrying.{CarriesEntry, carried}
 
 same-lawful : {K : ℕ} (shape : Shape) {L M : Layout K} {t s : Table} {u v : Update K} {n m : LayoutChange} → L ≡ M → t ≡ s → u ≡ v → n ≡ m → IsLawfulNote shape L t u n → IsLawfulNote shape M s v m
 same-lawful shape {L} {M} {t} {s} {u} {v} {n} {m} p q r o l =
@@ -71,35 +69,32 @@ module _ {K : ℕ} (h : History K) (ls : Layouts K) (begin : ℕ) (base : Table)
   place-later : (m : ℕ) → IsPlace h m → IsPlace longer m
   place-later m p = record { not_before = omega (arith, p.not_before, from); not_after = omega (arith, p.not_after, from) }
 
-  reading-later : {V : Type 0} (at : ℕ) (value : V) (of : Table → V) → IsReading h at value of → IsReading longer at value of
-  reading-later at value of r = record { place = place-later at r.place; answer = r.answer ∙ ap of (sym (state-later at r.place.not_before)) }
-
-  update-later : (caller : ℕ) (u : Update K) (k : List ℕ) (at : ℕ) (value : Option (List ℕ)) → IsUpdate h caller u k at value → IsUpdate longer caller u k at value
-  update-later caller u k at value r = by (nat_lt h.from at) refl
+  entry-carries : (caller n : ℕ) (u : Update K) → entry_at h n ≡ Some (record { caller = caller; update = u }) → CarriesEntry h longer caller caller n u
+  entry-carries caller n u there = by (nat_lt h.from n) refl
     where
-      by : (t : Bool) → nat_lt h.from at ≡ t → IsUpdate longer caller u k at value
+      by : (t : Bool) → nat_lt h.from n ≡ t → CarriesEntry h longer caller caller n u
       by true p =
-          let l : h.from < at = ltb-true h.from at p in
-          record { there = entry-later at l ∙ r.there; answer = r.answer ∙ ap (λ t. get t k) (sym (state-later (at - 1) (omega (arith, l)))) }
-      by false p = absurd (true≢false (sym (ap is_some (sym (ap (λ t. cond t (slice_get h.entries (at - h.from - 1)) None) p) ∙ r.there))))
+          let l : h.from < n = ltb-true h.from n p in
+          record { there = entry-later n l ∙ there; table = state-later (n - 1) (omega (arith, l)) }
+      by false p = absurd (true≢false (sym (ap is_some (sym (ap (λ t. cond t (slice_get h.entries (n - h.from - 1)) None) p) ∙ there))))
 
-  removal-later : (caller : ℕ) (u : Update K) (k : List ℕ) (at : ℕ) (value : Option (List ℕ)) → IsRemoval h caller u k at value → IsRemoval longer caller u k at value
-  removal-later caller u k at None r = reading-later at None (λ t. get t k) r
-  removal-later caller u k at (Some d) r = update-later caller u k at (Some d) r
+  answer-later : (caller : ℕ) (r : Request K) (reply : Reply K) → IsAnswer h caller r reply → IsAnswer longer caller r reply
+  answer-later caller r reply is = carried h longer caller caller place-later (λ m p. state-later m p.not_before) (entry-carries caller) r reply is
+
+  says-later : (shape : Shape) (caller : ℕ) (r : Request K) (reply : Reply K) → IsAnswer h caller r reply → SaysOfLayout shape h ls reply → SaysOfLayout shape longer longer-layouts reply
+  says-later shape caller ask.Stat (told.Stood a) is says = subst (λ (L : Layout K). IsCounted shape L a.value) (sym (layout-later a.at is.place.not_before)) says
+  says-later shape caller _ (told.Put a) is says = tt
+  says-later shape caller _ (told.Removed a) is says = tt
+  says-later shape caller _ (told.Got a) is says = tt
+  says-later shape caller _ (told.Listed a) is says = tt
+  says-later shape caller _ (told.Counted a) is says = tt
+  says-later shape caller _ (told.Rooted at) is says = tt
+  says-later shape caller _ (told.Refused why) is says = tt
+  says-later shape caller _ (told.Stood a) is says = absurd is
 
   -- a legal answer of the later history is one of the longer history
-  pub legal-later : (shape : Shape) (caller : ℕ) (r : Request K) (reply : Reply K) → IsLegal shape h ls caller r reply → IsLegal shape longer longer-layouts caller r reply
-  legal-later shape caller (ask.Put r) (told.Put a) g = record { answer = update-later caller (Put r) r.key.numbers a.at a.value g.answer; layout = tt }
-  legal-later shape caller (ask.Remove k) (told.Removed a) g = record { answer = removal-later caller (Remove k) k.numbers a.at a.value g.answer; layout = tt }
-  legal-later shape caller (ask.Get k) (told.Got a) g = record { answer = reading-later a.at a.value (λ t. get t k.numbers) g.answer; layout = tt }
-  legal-later shape caller (ask.List q) (told.Listed a) g = record { answer = reading-later a.at a.value (λ t. map record_of (rows t q)) g.answer; layout = tt }
-  legal-later shape caller (ask.Count q) (told.Counted a) g = record { answer = reading-later a.at a.value (λ t. length (rows t q)) g.answer; layout = tt }
-  legal-later shape caller ask.Stat (told.Stood a) g = record {
-    answer = reading-later a.at a.value.records (λ t. length t) g.answer;
-    layout = subst (λ (L : Layout K). IsCounted shape L a.value) (sym (layout-later a.at g.answer.place.not_before)) g.layout;
-  }
-  legal-later shape caller ask.Checkpoint (told.Rooted at) g = record { answer = place-later at g.answer; layout = tt }
-  legal-later shape caller _ _ g = absurd g.answer
+  pub legal-later : (shape : Shape) (caller : ℕ) (call : CallTrail) (r : Request K) (reply : Reply K) → IsLegal shape h ls caller call r reply → IsLegal shape longer longer-layouts caller call r reply
+  legal-later shape caller call r reply g = record { answer = answer-later caller r reply g.answer; layout = says-later shape caller r reply g.answer g.layout; own = g.own }
 
   first-table : state_at longer (begin + 0) ≡ base
   first-table = start-state longer (begin + 0) (omega arith)

@@ -14,7 +14,7 @@ use Rattle.grid_types.specs.declared.key.Key.{Key}
 use Rattle.grid_types.specs.declared.layout_change.LayoutChange.{LayoutChange}
 use Rattle.grid_types.specs.declared.layout_change.LayoutChange.TheVariants as note
 use Rattle.grid_types.specs.declared.layout_change.Cut.{Cut}
-use Rattle.grid_types.specs.Keys.{IsKey}
+use Rattle.grid_model.specs.Lawful.{IsUpdateOf}
 use Rattle.grid_types.specs.Queries.{is_lawful}
 use Rattle.grid_model.specs.Lists.{is_among}
 use Rattle.grid_model.specs.Scales.{scale_of, is_scale}
@@ -26,7 +26,7 @@ use Rattle.grid_model.specs.Cuts.{cut}
 use Rattle.grid_model.specs.Neighbours.{partners}
 use Rattle.grid_model.specs.Notes.{updated_key, keys_with, cut_note, put_note, put_note_at, merges, merges_at, after_note, after_note_at, joined, IsLawfulNote}
 use Rattle.grid_model.specs.LayoutLaws.{StandsOver, Fits, KeepsSound, IsLeastUnused, MergesTwo, IsMerge}
-use Rattle.grid_model.specs.LoneLaws.{IsState, HasKey}
+use Rattle.grid_model.specs.LoneLaws.{IsState, IsRequest}
 use Rattle.grid_model.specs.Lone.{record_of, State, free, root, opened, root_if, how_many, renewed, dropped, need, published, claimed, queued, change, change_claimed, done, refused, answered, remove_note, remove_found, put_noted, update_at, update_held, updated, lone}
 use Rattle.grid_model.proofs.Counts.{filter-distinct, among-filter, among-range, range-distinct, sorted-distinct, among-found}
 use Rattle.grid_model.proofs.Holders.{holder-box}
@@ -161,7 +161,7 @@ module _ {K : ℕ} (shape : Shape) (keeps : KeepsSound K) (least : IsLeastUnused
       (merge-swaps s.layout e.0 e.1 m g.0 s.rooted b.0 g.1 g.2 h.stands.sound.numbered (rooted-of shape s h)
       (subst (λ (M : Layout K). IsMerge s.layout e.0 e.1 m g.0 M) (after-there s.layout k.numbers e (note.Merge m) q ∙ same) g.3))
 
-  pub published-state : (s : State K) (e : ℕ × BucketBox K) (u : Update K) (n : LayoutChange) → IsState shape s → IsKey K (updated_key u) → holder s.layout (updated_key u) ≡ Some e → IsLawfulNote shape s.layout s.table u n
+  pub published-state : (s : State K) (e : ℕ × BucketBox K) (u : Update K) (n : LayoutChange) → IsState shape s → IsUpdateOf K u → holder s.layout (updated_key u) ≡ Some e → IsLawfulNote shape s.layout s.table u n
       → how_many (renewed s.layout e n) ≤ free shape s → IsState shape (published e u n s)
   unfolding published
   published-state s e u n h k q l room =
@@ -179,7 +179,7 @@ module _ {K : ℕ} (shape : Shape) (keeps : KeepsSound K) (least : IsLeastUnused
       }
 
   -- a root step for want of slots leaves a state in which the update is done
-  done-state : (s : State K) (e : ℕ × BucketBox K) (u : Update K) (n : LayoutChange) → IsState shape s → IsKey K (updated_key u) → holder s.layout (updated_key u) ≡ Some e → IsLawfulNote shape s.layout s.table u n
+  done-state : (s : State K) (e : ℕ × BucketBox K) (u : Update K) (n : LayoutChange) → IsState shape s → IsUpdateOf K u → holder s.layout (updated_key u) ≡ Some e → IsLawfulNote shape s.layout s.table u n
       → how_many (renewed s.layout e n) ≤ free shape s → IsState shape (published e u n (queued shape s))
   unfolding queued
   done-state s e u n h k q l room = by (s.used == shape.slots)
@@ -189,7 +189,7 @@ module _ {K : ℕ} (shape : Shape) (keeps : KeepsSound K) (least : IsLeastUnused
       by false = published-state s e u n h k q l room
 
   -- an update with as many free pages as it needs, or refused
-  claimed-state : (s : State K) (e : ℕ × BucketBox K) (u : Update K) (n : LayoutChange) (wanted : ℕ) → IsState shape s → IsKey K (updated_key u) → holder s.layout (updated_key u) ≡ Some e → IsLawfulNote shape s.layout s.table u n
+  claimed-state : (s : State K) (e : ℕ × BucketBox K) (u : Update K) (n : LayoutChange) (wanted : ℕ) → IsState shape s → IsUpdateOf K u → holder s.layout (updated_key u) ≡ Some e → IsLawfulNote shape s.layout s.table u n
       → how_many (renewed s.layout e n) ≤ wanted → IsState shape (change_claimed shape e u n wanted s).state
   claimed-state s e u n wanted h k q l few = by (nat_lt (free shape s) wanted) refl
     where
@@ -198,7 +198,7 @@ module _ {K : ℕ} (shape : Shape) (keeps : KeepsSound K) (least : IsLeastUnused
       by false p = done-state s e u n h k q l (omega (arith, few, ltb-false (free shape s) wanted p))
 
   -- an update with its note
-  pub change-state : (s : State K) (e : ℕ × BucketBox K) (u : Update K) (n : LayoutChange) → IsState shape s → IsKey K (updated_key u) → holder s.layout (updated_key u) ≡ Some e → IsLawfulNote shape s.layout s.table u n → IsState shape (change shape s e u n).state
+  pub change-state : (s : State K) (e : ℕ × BucketBox K) (u : Update K) (n : LayoutChange) → IsState shape s → IsUpdateOf K u → holder s.layout (updated_key u) ≡ Some e → IsLawfulNote shape s.layout s.table u n → IsState shape (change shape s e u n).state
   unfolding change claimed need
   change-state s e u n h k q l = by (nat_lt (free shape s) (need s.layout e u n) && nat_lt 0 s.kept)
     where
@@ -206,7 +206,7 @@ module _ {K : ℕ} (shape : Shape) (keeps : KeepsSound K) (least : IsLeastUnused
       by true = claimed-state (root s) e u n (need s.layout e u n) (root-state shape s h) k q l (omega arith)
       by false = claimed-state s e u n (need s.layout e u n) h k q l (omega arith)
 
-  held-state : (s : State K) (u : Update K) (e : ℕ × BucketBox K) → IsState shape s → IsKey K (updated_key u) → holder s.layout (updated_key u) ≡ Some e → IsState shape (update_at shape s u e).state
+  held-state : (s : State K) (u : Update K) (e : ℕ × BucketBox K) → IsState shape s → IsUpdateOf K u → holder s.layout (updated_key u) ≡ Some e → IsState shape (update_at shape s u e).state
   held-state s (Put r) e h k q = by (put_note shape s.layout s.table r.key.numbers) refl
     where
       by : (o : Option LayoutChange) → put_note shape s.layout s.table r.key.numbers ≡ o → IsState shape (put_noted shape s e (Put r) o).state
@@ -218,7 +218,7 @@ module _ {K : ℕ} (shape : Shape) (keeps : KeepsSound K) (least : IsLeastUnused
       by None p = h
       by (Some x) p = change-state s e (Remove d) (remove_note shape s e (Remove d) (merges shape s.layout s.table d.numbers)) h k q (remove-lawful shape s e d (ap is_some p) (merges shape s.layout s.table d.numbers) (λ n c. c))
 
-  updated-state : (s : State K) (u : Update K) → IsState shape s → IsKey K (updated_key u) → IsState shape (updated shape s u).state
+  updated-state : (s : State K) (u : Update K) → IsState shape s → IsUpdateOf K u → IsState shape (updated shape s u).state
   unfolding updated
   updated-state s u h k = by (holder s.layout (updated_key u)) refl
     where
@@ -227,7 +227,7 @@ module _ {K : ℕ} (shape : Shape) (keeps : KeepsSound K) (least : IsLeastUnused
       by (Some e) p = held-state s u e h k p
 
   -- each request leaves a state
-  pub lone-state : (s : State K) (r : Request K) → IsState shape s → HasKey r → IsState shape (lone shape s r).state
+  pub lone-state : (s : State K) (r : Request K) → IsState shape s → IsRequest r → IsState shape (lone shape s r).state
   unfolding lone
   lone-state s (ask.Put r) h k = updated-state s (Put r) h k
   lone-state s (ask.Remove d) h k = updated-state s (Remove d) h k

@@ -54,6 +54,7 @@ history got = told_history 0 [] (exchanges script (replies got 1))
 explained : (got : ℕ) → got ≤ 1 → None ≡ get (state_at (history got) got) (9 ∷ 9 ∷ []) → Explains 0 [] script (replies got 1) 1
 unfolding exchanges exchanges_of updates_made by_place told_history state_at
 explained got l absent = record {
+  base_is = record { table = tt; keys = λ k d e. absurd (true≢false (sym (ap is_some e))); values = λ k d e. absurd (true≢false (sym (ap is_some e))) };
   clients = refl;
   replies = λ g c. of-two (λ (x : Group 2). length x.replies ≡ length (lines_by x.client script)) (record { client = 1; replies = told.Got (record { at = got; value = None }) ∷ [] }) (record { client = 2; replies = told.Put (record { at = 1; value = None }) ∷ [] }) g refl refl c;
   places = refl;

@@ -53,10 +53,22 @@ abbrev pub SaysOfLayout : {K : ℕ} → Shape → History K → Layouts K → Re
 SaysOfLayout shape h ls (told.Stood a) = IsCounted shape (layout_at h ls a.at) a.value
 SaysOfLayout _ _ _ _ = ⊤
 
--- a legal answer: a plain table's answer at its place, and what it says of the layout there is so
-pub record IsLegal {K : ℕ} (shape : Shape) (h : History K) (ls : Layouts K) (caller : ℕ) (request : Request K) (reply : Reply K) : Type 0 where
+-- what a call's trail says for its answer: the front at its event, and the front of the root that it completed last, if it completed one
+pub record CallTrail : Type 0 where
+  pub event : ℕ
+  pub rooted : Option ℕ
+
+-- the place of a `stat` is the front at its event, and that of a checkpoint the front of the root that the call completed last
+abbrev pub HasOwnPlace : {K : ℕ} → CallTrail → Reply K → Type 0
+HasOwnPlace call (told.Stood a) = a.at ≡ call.event
+HasOwnPlace call (told.Rooted at) = call.rooted ≡ Some at
+HasOwnPlace _ _ = ⊤
+
+-- a legal answer: a plain table's answer at its place, what it says of the layout there is so, and its place is the call's own
+pub record IsLegal {K : ℕ} (shape : Shape) (h : History K) (ls : Layouts K) (caller : ℕ) (call : CallTrail) (request : Request K) (reply : Reply K) : Type 0 where
   pub answer : IsAnswer h caller request reply
   pub layout : SaysOfLayout shape h ls reply
+  pub own : HasOwnPlace call reply
 
 -- a reply that refuses
 abbrev pub IsRefusal : {K : ℕ} → Reply K → Type 0

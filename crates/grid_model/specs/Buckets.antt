@@ -2,9 +2,8 @@
 use Rattle.std.specs.Prelude.{◌≡◌, ℕ, ◌<◌, ◌≤◌, ◌^◌, List, length, All, IsTrue}
 use Rattle.grid_types.specs.Keys.{IsKey}
 use Rattle.grid_types.specs.Regions.{contains, IsRegion}
-use Rattle.grid_model.specs.Tables.{IsTable, pairs_of}
+use Rattle.grid_model.specs.Tables.{IsTable, IsData, pairs_of}
 use Rattle.grid_model.specs.Spellings.{BucketOf, bucket_spelling}
-use Rattle.grid_model.specs.Lawful.{IsData}
 
 -- a bucket is lawful: its numbers are in their ranges, its region is not empty, and its records are at most its capacity, ascend and lie in the region
 pub record IsBucket {K : ℕ} (capacity : ℕ) (b : BucketOf K) : Type 0 where

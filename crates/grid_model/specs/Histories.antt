@@ -1,9 +1,10 @@
 -- One history: a number, the table that stood there, and the entries since; beside it the layouts, by the notes of the entries.
-use Rattle.std.specs.Prelude.{◌≡◌, ℕ, ◌+◌, ◌-◌, ◌≤◌, List, if◌then◌else◌, take, length, fold, zip, Option, Some, None, slice_get, nat_lt}
+use Rattle.std.specs.Prelude.{◌≡◌, ℕ, ◌+◌, ◌-◌, ◌≤◌, List, if◌then◌else◌, take, length, fold, zip, Option, Some, None, slice_get, nat_lt, All}
 use Rattle.grid_types.specs.declared.update.Entry.{Entry}
 use Rattle.grid_types.specs.declared.shape.Shape.{Shape}
 use Rattle.grid_types.specs.declared.layout_change.LayoutChange.{LayoutChange}
-use Rattle.grid_model.specs.Tables.{Table, effect}
+use Rattle.grid_model.specs.Tables.{Table, IsTableOf, effect}
+use Rattle.grid_model.specs.Lawful.{IsUpdateOf}
 use Rattle.grid_model.specs.Layouts.{Layout}
 use Rattle.grid_model.specs.Notes.{IsLawfulNote, after_note, updated_key}
 
@@ -12,6 +13,11 @@ pub record History (K : ℕ) : Type 0 where
   pub from : ℕ
   pub base : Table
   pub entries : List (Entry K)
+
+-- a history is one of tables: it begins with a table of K attributes, and each update has a key of K numbers and lawful data
+pub record IsHistory {K : ℕ} (h : History K) : Type 0 where
+  pub base : IsTableOf K h.base
+  pub updates : All (λ e. IsUpdateOf K e.update) h.entries
 
 -- the place of the last entry
 abbrev pub front : {K : ℕ} → History K → ℕ

@@ -6,11 +6,10 @@ use Rattle.std.specs.Option.{option_map_or}
 use Rattle.grid_types.specs.declared.sizes.TheConstants.{PAGE_BYTES, NUMBERS_ON_PAGE, WORDS_ON_PAGE}
 use Rattle.grid_types.specs.declared.shape.Shape.{Shape}
 use Rattle.grid_types.specs.declared.layout_change.LoggedUpdate.{LoggedUpdate}
-use Rattle.grid_types.specs.Regions.{contains}
 use Rattle.grid_types.specs.Pages.{page_of}
 use Rattle.grid_types.specs.Shapes.{is_shape, file_pages, area_pages, header_page, table_page, data_page}
 use Rattle.grid_types.specs.Shapes as places
-use Rattle.grid_model.specs.Lists.{below, is_among}
+use Rattle.grid_model.specs.Lists.{below}
 use Rattle.grid_model.specs.Tables.{Table, effect, with_data}
 use Rattle.grid_model.specs.Scales.{scale_of}
 use Rattle.grid_model.specs.Cells.{parts}
@@ -72,10 +71,15 @@ pub record HasGatesOf (s : Shape) (image : List ℕ) (half : ℕ) (gates : List 
   pub count : length gates ≡ s.slots
   pub page : page_of (places.gate_page s half) image ≡ gate_spelling half gates
 
+-- the gates of both halves of the journal
+pub record Gates : Type 0 where
+  pub first : List ℕ
+  pub second : List ℕ
+
 -- the gate pages of both halves are spelled, with these gates
-pub record HasGates (s : Shape) (image : List ℕ) (gates : ℕ → List ℕ) : Type 0 where
-  pub first : HasGatesOf s image 0 (gates 0)
-  pub second : HasGatesOf s image 1 (gates 1)
+pub record HasGates (s : Shape) (image : List ℕ) (gates : Gates) : Type 0 where
+  pub first : HasGatesOf s image 0 gates.first
+  pub second : HasGatesOf s image 1 gates.second
 
 -- a slot page spells a batch
 pub record SpellsBatch {K : ℕ} (bytes : List ℕ) (b : LoggedBatch K) : Type 0 where
@@ -87,8 +91,8 @@ abbrev pub open_slots_of : List ℕ → ℕ → List (ℕ × ℕ)
 open_slots_of gates half = map (λ i. (half, i)) (filter (λ i. slice_index gates i == 1) (below (length gates)))
 
 -- the open slots of the first half, and then those of the second
-abbrev pub open_slots : (ℕ → List ℕ) → List (ℕ × ℕ)
-open_slots gates = open_slots_of (gates 0) 0 ++ open_slots_of (gates 1) 1
+abbrev pub open_slots : Gates → List (ℕ × ℕ)
+open_slots gates = open_slots_of gates.first 0 ++ open_slots_of gates.second 1
 
 -- the slots spell these batches, each its own
 pub record HasBatches {K : ℕ} (s : Shape) (image : List ℕ) (slots : List (ℕ × ℕ)) (batches : List (LoggedBatch K)) : Type 0 where
@@ -131,7 +135,7 @@ pub record Found (K : ℕ) : Type 0 where
   pub shape : Shape
   pub root : RootFields
   pub area : Area
-  pub gates : ℕ → List ℕ
+  pub gates : Gates
   pub batches : List (LoggedBatch K)
   pub taken : List (LoggedBatch K)
   pub buckets : List (BucketOf K)
@@ -154,19 +158,28 @@ pub record IsFound {K : ℕ} (image : List ℕ) (f : Found K) (n : ℕ) : Type 0
   pub batches : HasBatches f.shape image (open_slots f.gates) f.batches
   pub taken : Join (of_session f.root.session f.batches) f.root.front f.taken n
 
--- an image reads as a table at a place: the records of the newest root's buckets, changed by the batches that join it
-pub record Reads {K : ℕ} (image : List ℕ) (f : Found K) (n : ℕ) (t : Table) : Type 0 where
-  pub found : IsFound image f n
+-- what is found in an image makes a table at a place: the records of the newest root's buckets, changed by the batches that join it
+pub record MakesTable {K : ℕ} (image : List ℕ) (f : Found K) (n : ℕ) (t : Table) : Type 0 where
+  pub is_found : IsFound image f n
   pub buckets : HasBuckets f.shape image f.area.table f.buckets
   pub records : AreRecordsOf f.buckets f.table
   pub table : t ≡ fold logged_effect f.table (updates_taken f)
+
+-- an image reads as a table at a place: what is found in it makes this table
+pub record Reads (K : ℕ) (image : List ℕ) (n : ℕ) (t : Table) : Type 0 where
+  pub found : Found K
+  pub makes : MakesTable image found n t
+
+-- the bucket of a box: its number, its region and turn, and the records of the table that are inside of it
+abbrev pub bucket_on : {K : ℕ} → Table → ℕ × BucketBox K → BucketOf K
+bucket_on t e = record { number = e.0; box = e.1; rows = map record_of (records_inside t e.1.region) }
 
 -- pages spell a layout and a table: each directory part has the numbers of the boxes that have its cells' lowest keys, and each number's page has its box and the records of its region
 pub record PagesSpell {K : ℕ} (s : Shape) (image : List ℕ) (parts_at table : List ℕ) (L : Layout K) (t : Table) : Type 0 where
   pub count : length parts_at ≡ parts L.scales
   pub directory : (p : ℕ) → p < parts L.scales → entry_page s image parts_at p ≡ directory_spelling p (directory_part L p)
   pub numbers : map (λ e. e.0) L.boxes ≡ numbers_of table
-  pub buckets : (m : ℕ) (b : BucketBox K) → box L m ≡ Some b → SpellsBucket s.capacity (entry_page s image table m) (record { number = m; box = b; rows = map record_of (records_inside t b.region) })
+  pub buckets : (m : ℕ) (b : BucketBox K) → box L m ≡ Some b → SpellsBucket s.capacity (entry_page s image table m) (bucket_on t (m, b))
 
 -- the root's pages spell a layout that is sound for the root's table, and the root has its number of records
 pub record RootSpells {K : ℕ} (image : List ℕ) (f : Found K) (L : Layout K) : Type 0 where
@@ -198,36 +211,28 @@ abbrev pub last_gate : List ℕ → ℕ
 last_gate gates = length (filter (λ i. list_any (λ g. not (g == 0)) (drop i gates)) (below (length gates)))
 
 -- the slots up to the last gate of their half that is not 0
-abbrev pub written_slots : (ℕ → List ℕ) → List (ℕ × ℕ)
-written_slots gates = map (λ i. (0, i)) (below (last_gate (gates 0))) ++ map (λ i. (1, i)) (below (last_gate (gates 1)))
+abbrev pub written_slots : Gates → List (ℕ × ℕ)
+written_slots gates = map (λ i. (0, i)) (below (last_gate gates.first)) ++ map (λ i. (1, i)) (below (last_gate gates.second))
+
+-- of what is found, each slot up to the last gate spells a batch of a session up to the root's
+pub record AreWritten {K : ℕ} (image : List ℕ) (f : Found K) : Type 0 where
+  pub batches : List (LoggedBatch K)
+  pub slots : HasBatches f.shape image (written_slots f.gates) batches
+  pub sessions : All (λ b. b.session ≤ f.root.session) batches
 
 -- an image stands for a table at a place: it reads as that, each slot up to the last gate spells a batch of a session up to the root's, the root's pages spell a sound layout, and each update that is taken may be
 pub record Stands (K : ℕ) (image : List ℕ) (n : ℕ) (t : Table) : Type 0 where
-  pub found : Found K
-  pub reads : Reads image found n t
+  pub reads : Reads K image n t
+  pub written : AreWritten image reads.found
   pub layout : Layout K
-  pub root : RootSpells image found layout
-  pub written : List (LoggedBatch K)
-  pub slots : HasBatches found.shape image (written_slots found.gates) written
-  pub sessions : All (λ b. b.session ≤ found.root.session) written
-  pub updates : MayRedoAll found.shape (opened found.table layout found.root.front) (updates_taken found)
+  pub root : RootSpells image reads.found layout
+  pub updates : MayRedoAll reads.found.shape (opened reads.found.table layout reads.found.root.front) (updates_taken reads.found)
 
--- an image has a layout: the one that the root's pages spell, changed by the notes of the updates that are taken
-pub record IsShaped {K : ℕ} (image : List ℕ) (n : ℕ) (L : Layout K) : Type 0 where
-  pub found : Found K
-  pub is_found : IsFound image found n
+-- an image has a layout: it reads as a table at some place, and this is the layout that the root's pages spell, changed by the notes of the updates that are taken
+pub record IsShaped {K : ℕ} (image : List ℕ) (L : Layout K) : Type 0 where
+  pub place : ℕ
+  pub table : Table
+  pub reads : Reads K image place table
   pub layout : Layout K
-  pub root : RootSpells image found layout
-  pub after : L ≡ layout_after layout (updates_taken found)
-
--- a directory page is the expected one of a part: it is spelled, and each cell names a number that the table has
-pub record IsExpectedPart (bytes : List ℕ) (part n : ℕ) (table cells : List ℕ) : Type 0 where
-  pub spelled : bytes ≡ directory_spelling part cells
-  pub count : length cells ≡ n
-  pub named : All (λ m. IsTrue (is_among (numbers_of table) m)) cells
-
--- a bucket page is the expected one: it is spelled for that number, and its region has the key for which it was read
-pub record IsExpectedBucket {K : ℕ} (s : Shape) (bytes : List ℕ) (number : ℕ) (key : List ℕ) (b : BucketOf K) : Type 0 where
-  pub spelled : SpellsBucket s.capacity bytes b
-  pub number_is : b.number ≡ number
-  pub inside : IsTrue (contains b.box.region key)
+  pub root : RootSpells image reads.found layout
+  pub after : L ≡ layout_after layout (updates_taken reads.found)

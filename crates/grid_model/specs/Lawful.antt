@@ -1,7 +1,7 @@
 -- Which fields of pages are lawful: their numbers are in their ranges, and say what a file may say.
 use Rattle.std.specs.Prelude.{◌≡◌, ℕ, ◌+◌, ◌*◌, ◌%◌, ◌<◌, ◌≤◌, ◌^◌, List, ◌++◌, ◌==◌, not, map, filter, length, All, IsTrue, ⊤}
 use Rattle.grid_types.specs.Shapes.{word_pages}
-use Rattle.grid_types.specs.declared.sizes.TheConstants.{LONGEST_DATA, MOST_UPDATES}
+use Rattle.grid_types.specs.declared.sizes.TheConstants.{MOST_UPDATES}
 use Rattle.grid_types.specs.declared.shape.Shape.{Shape}
 use Rattle.grid_types.specs.declared.update.Update.{Update}
 use Rattle.grid_types.specs.declared.update.Update.TheVariants.{Put, Remove}
@@ -10,13 +10,10 @@ use Rattle.grid_types.specs.declared.layout_change.LayoutChange.TheVariants as n
 use Rattle.grid_types.specs.declared.layout_change.LoggedUpdate.{LoggedUpdate}
 use Rattle.grid_types.specs.Keys.{IsKey}
 use Rattle.grid_model.specs.Lists.{product, AreDistinct}
+use Rattle.grid_model.specs.Tables.{IsData}
 use Rattle.grid_model.specs.Scales.{is_scale}
 use Rattle.grid_model.specs.Notes.{updated_key}
 use Rattle.grid_model.specs.Spellings.{RootFields, LoggedBatch, update_data}
-
--- data is no longer than the longest
-abbrev pub IsData : List ℕ → Type 0
-IsData d = length d ≤ LONGEST_DATA
 
 -- the number that stands where no bucket has a number
 unfoldable pub nowhere : ℕ

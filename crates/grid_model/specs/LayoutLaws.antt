@@ -6,26 +6,23 @@ use Rattle.grid_types.specs.declared.layout_change.Cut.{Cut}
 use Rattle.grid_types.specs.declared.layout_change.LayoutChange.{LayoutChange}
 use Rattle.grid_types.specs.declared.layout_change.LayoutChange.TheVariants as note
 use Rattle.grid_types.specs.declared.region.Region.{Region}
-use Rattle.grid_types.specs.Keys.{IsKey}
 use Rattle.grid_types.specs.Regions.{contains, IsRegion}
 use Rattle.grid_types.specs.Shapes.{is_shape}
 use Rattle.grid_model.specs.Cells.{parts}
-use Rattle.grid_model.specs.Tables.{Table, IsTable, get, effect}
+use Rattle.grid_model.specs.Tables.{Table, IsTable, HasKeys, HasValues, effect}
 use Rattle.grid_model.specs.Layouts.{BucketBox, Layout, box, holder, unused, new_layout, IsSound}
+use Rattle.grid_model.specs.Lawful.{IsUpdateOf}
 use Rattle.grid_model.specs.Cuts.{is_within}
 use Rattle.grid_model.specs.Neighbours.{make_a_box, hull}
 use Rattle.grid_model.specs.Notes.{updated_key, left_of, right_of, after_note, IsLawfulNote, together}
 
--- each key of a table has K numbers of 64 bits
-abbrev pub HasKeys : ℕ → Table → Type 0
-HasKeys K t = (k : List ℕ) (d : List ℕ) → get t k ≡ Some d → IsKey K k
-
--- a layout and a table of a file of that shape: the keys ascend and are keys, and the layout is sound for the table
+-- a layout and a table of a file of that shape: the table is one of its attributes, and the layout is sound for the table
 pub record StandsOver {K : ℕ} (shape : Shape) (L : Layout K) (t : Table) : Type 0 where
   pub lawful : IsTrue (is_shape shape)
   pub attributes : shape.k ≡ K
   pub table : IsTable t
   pub keys : HasKeys K t
+  pub values : HasValues t
   pub sound : IsSound shape L t
 
 -- the boxes and parts of a layout are at most the data pages
@@ -35,7 +32,7 @@ Fits shape L = length L.boxes + parts L.scales ≤ shape.pages
 -- a new file's layout is sound for the empty table, and a lawful note keeps a layout sound for the table after the update, where the boxes and parts that it leaves fit
 pub record KeepsSound (K : ℕ) : Type 0 where
   pub new : (shape : Shape) → IsTrue (is_shape shape) → shape.k ≡ K → StandsOver shape (new_layout K) []
-  pub after : (shape : Shape) (L : Layout K) (t : Table) (u : Update K) (n : LayoutChange) → StandsOver shape L t → IsKey K (updated_key u) → IsLawfulNote shape L t u n
+  pub after : (shape : Shape) (L : Layout K) (t : Table) (u : Update K) (n : LayoutChange) → StandsOver shape L t → IsUpdateOf K u → IsLawfulNote shape L t u n
       → Fits shape (after_note L (updated_key u) n) → StandsOver shape (after_note L (updated_key u) n) (effect t u)
 
 -- a cut parts a region: the left part has its keys below the boundary, the right part the others

@@ -19,12 +19,15 @@ pub mod Spellings
 pub mod Lawful
 pub mod Buckets
 pub mod Images
+pub mod Expected
 pub mod Computing
 pub mod TableLaws
 pub mod ScaleLaws
 pub mod CutLaws
 pub mod LayoutLaws
 pub mod LoneLaws
+pub mod PassLaws
+pub mod BucketLaws
 pub mod ScriptLaws
 pub mod Slots
 pub mod Roots

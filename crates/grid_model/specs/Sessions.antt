@@ -13,7 +13,7 @@ use Rattle.grid_types.specs.declared.request.Request.TheVariants as ask
 use Rattle.grid_types.specs.declared.request.Reply.{Reply}
 use Rattle.grid_types.specs.declared.request.Reply.TheVariants as told
 use Rattle.grid_model.specs.Lists.{from_to, zip_with}
-use Rattle.grid_model.specs.Tables.{Table}
+use Rattle.grid_model.specs.Tables.{Table, IsTableOf}
 use Rattle.grid_model.specs.Histories.{History}
 use Rattle.grid_model.specs.Answers.{IsAnswer, IsRefusal}
 use Rattle.grid_model.specs.Text.{Group}
@@ -86,8 +86,9 @@ abbrev pub Rises : {K : ℕ} → List (Exchange K) → Type 0
 Rises {K} xs = (i j p q : ℕ) (x y : Exchange K) → i < j → slice_get xs i ≡ Some x → slice_get xs j ≡ Some y → place_told x.reply ≡ Some p → place_told y.reply ≡ Some q
     → (p ≤ q) × (IsSome (made_in y) → p < q)
 
--- one history explains what was told of a script: each client that has a line has one reply of its kind for each line, the places of the updates are the numbers from f + 1 to n, each once, places rise, and each answer is a plain table's at its place, or a refusal
+-- one history explains what was told of a script: its base is a table, each client that has a line has one reply of its kind for each line, the places of the updates are the numbers from f + 1 to n, each once, places rise, and each answer is a plain table's at its place, or a refusal
 pub record Explains {K : ℕ} (f : ℕ) (base : Table) (lines : List (Line K)) (groups : List (Group K)) (n : ℕ) : Type 0 where
+  pub base_is : IsTableOf K base
   pub clients : map (λ g. g.client) groups ≡ clients lines
   pub replies : (g : Group K) → Contains groups g → length g.replies ≡ length (lines_by g.client lines)
   pub places : map (λ e. e.0) (by_place (updates_made (exchanges lines groups))) ≡ from_to (f + 1) n

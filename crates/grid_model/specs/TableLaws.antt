@@ -7,9 +7,9 @@ use Rattle.grid_types.specs.declared.update.Update.TheVariants.{Put, Remove}
 use Rattle.grid_types.specs.declared.update.Entry.{Entry}
 use Rattle.grid_types.specs.declared.query.Query.{Query}
 use Rattle.grid_types.specs.Queries.{matches}
-use Rattle.grid_model.specs.Tables.{Table, IsTable, get, with_data, without, effect}
+use Rattle.grid_model.specs.Tables.{Table, IsTable, IsTableOf, get, with_data, without, effect}
 use Rattle.grid_model.specs.Listings.{rows}
-use Rattle.grid_model.specs.Histories.{History, front, state_at, GoesOn}
+use Rattle.grid_model.specs.Histories.{History, IsHistory, front, state_at, GoesOn}
 
 -- a table is a finite map: two tables with the same answers are one, and an update changes the answer at its key alone
 pub record IsFiniteMap (K : ℕ) : Type 0 where
@@ -33,10 +33,11 @@ pub record Lists (K : ℕ) : Type 0 where
 abbrev pub extended : {K : ℕ} → History K → Entry K → History K
 extended h e = record h { entries = h.entries ++ e ∷ [] }
 
--- a history's table is the base table where it begins, each entry changes it by its update, and what comes later changes no earlier table
+-- a history's table is the base table where it begins, each entry changes it by its update, what comes later changes no earlier table, and a history of tables has a table of K attributes at each place
 pub record MakesStates (K : ℕ) : Type 0 where
   pub start : (h : History K) → state_at h h.from ≡ h.base
   pub next : (h : History K) (e : Entry K) → state_at (extended h e) (front h + 1) ≡ effect (state_at h (front h)) e.update
   pub put_there : (h : History K) (caller : ℕ) (r : Record K) → get (state_at (extended h (record { caller = caller; update = Put r })) (front h + 1)) r.key.numbers ≡ Some r.value
   pub removal_there : (h : History K) (caller : ℕ) (k : Key K) → get (state_at (extended h (record { caller = caller; update = Remove k })) (front h + 1)) k.numbers ≡ None
   pub before : (h later : History K) (n : ℕ) → GoesOn h later → n ≤ front h → state_at later n ≡ state_at h n
+  pub tables : (h : History K) (n : ℕ) → IsHistory h → IsTableOf K (state_at h n)
