@@ -4,7 +4,7 @@ use Rattle.grid_types.specs.declared.update.Record.{Record}
 use Rattle.grid_types.specs.Keys.{IsKey}
 use Rattle.grid_types.proofs.Numbers.{contains-within}
 use Rattle.grid_model.specs.Buckets.{IsBucket}
-use Rattle.grid_model.specs.Lawful.{IsData}
+use Rattle.grid_model.specs.Tables.{IsData}
 use Rattle.bucket_page.specs.declared.bucket.Bucket.{Bucket}
 use Rattle.bucket_page.specs.Buckets.{bucket_of, AllInside, Ascends}
 use Rattle.bucket_page.proofs.Tables.{sorted, ascends}
