@@ -45,6 +45,7 @@ pub mod Telling
 pub mod Together
 pub mod Reading
 pub mod Printing
+mod ImageRows
 mod TwoClients
 mod Rows
 mod Drawn

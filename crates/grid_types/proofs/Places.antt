@@ -51,11 +51,13 @@ pub gate-page : (s : Shape) → (gate_page s 0 ≡ 2 + 2 * area_pages s) × (gat
 unfolding gate_page
 gate-page s = (omega arith, omega arith)
 
-slot-page-is : (s : Shape) (half i : ℕ) → slot_page s half i ≡ gate_page s half + 1 + i
+-- a slot page stands behind its half's gate page
+pub slot-page-is : (s : Shape) (half i : ℕ) → slot_page s half i ≡ gate_page s half + 1 + i
 unfolding slot_page
 slot-page-is s half i = refl
 
-data-page-is : (s : Shape) (i : ℕ) → data_page s i ≡ 4 + 2 * area_pages s + 2 * s.slots + i
+-- data pages stand behind all else
+pub data-page-is : (s : Shape) (i : ℕ) → data_page s i ≡ 4 + 2 * area_pages s + 2 * s.slots + i
 unfolding data_page
 data-page-is s i = refl
 
@@ -72,12 +74,12 @@ pub one-of-two : (n : ℕ) → n < 2 → (n ≡ 0) ⊎ (n ≡ 1)
 one-of-two n two = grind arith
 
 -- where a page of a table area lies
-pub record TablePage (s : Shape) (area i : ℕ) : Type 0 where
+pub record TablePageLies (s : Shape) (area i : ℕ) : Type 0 where
   pub first : 2 ≤ table_page s area i
   pub last : table_page s area i + 1 ≤ gate_page s 0
   pub inside : table_page s area i < file_pages s
 
-pub table-page-lies : (s : Shape) (area i : ℕ) → IsTrue (is_shape s) → area < 2 → i < area_pages s → TablePage s area i
+pub table-page-lies : (s : Shape) (area i : ℕ) → IsTrue (is_shape s) → area < 2 → i < area_pages s → TablePageLies s area i
 table-page-lies s area i lawful two lt =
     let t = table-page s i in
     let g = gate-page s in
@@ -88,12 +90,12 @@ table-page-lies s area i lawful two lt =
     ]
 
 -- where a gate page lies: behind the table areas
-pub record GatePage (s : Shape) (half : ℕ) : Type 0 where
+pub record GatePageLies (s : Shape) (half : ℕ) : Type 0 where
   pub behind : gate_page s 0 ≤ gate_page s half
   pub inside : gate_page s half < file_pages s
   pub small : gate_page s half ≤ 10000
 
-pub gate-page-lies : (s : Shape) (half : ℕ) → IsTrue (is_shape s) → half < 2 → GatePage s half
+pub gate-page-lies : (s : Shape) (half : ℕ) → IsTrue (is_shape s) → half < 2 → GatePageLies s half
 gate-page-lies s half lawful two =
     let g = gate-page s in
     let f = file-pages-are s in
@@ -105,13 +107,13 @@ gate-page-lies s half lawful two =
     ]
 
 -- where a slot page lies: behind its half's gate page, and before the data pages
-pub record SlotPage (s : Shape) (half i : ℕ) : Type 0 where
+pub record SlotPageLies (s : Shape) (half i : ℕ) : Type 0 where
   pub behind : gate_page s half < slot_page s half i
   pub inside : slot_page s half i < file_pages s
   pub before : slot_page s half i < data_page s 0
   pub value : slot_page s half i ≡ gate_page s half + 1 + i
 
-pub slot-page-lies : (s : Shape) (half i : ℕ) → IsTrue (is_shape s) → half < 2 → i < s.slots → SlotPage s half i
+pub slot-page-lies : (s : Shape) (half i : ℕ) → IsTrue (is_shape s) → half < 2 → i < s.slots → SlotPageLies s half i
 slot-page-lies s half i lawful two lt =
     let g = gate-page s in
     let f = file-pages-are s in
@@ -122,12 +124,12 @@ slot-page-lies s half i lawful two lt =
     record { behind = omega (arith, p); inside = omega (arith, p, f, low, lt, w.some_pages); before = omega (arith, p, d, low, lt); value = p }
 
 -- where a data page lies: at the end of the file
-pub record DataPage (s : Shape) (i : ℕ) : Type 0 where
+pub record DataPageLies (s : Shape) (i : ℕ) : Type 0 where
   pub behind : data_page s 0 ≤ data_page s i
   pub inside : data_page s i < file_pages s
   pub value : data_page s i ≡ 4 + 2 * area_pages s + 2 * s.slots + i
 
-pub data-page-lies : (s : Shape) (i : ℕ) → i < s.pages → DataPage s i
+pub data-page-lies : (s : Shape) (i : ℕ) → i < s.pages → DataPageLies s i
 data-page-lies s i lt =
     let f = file-pages-are s in
     let d = data-page-is s i in

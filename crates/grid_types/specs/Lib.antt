@@ -6,3 +6,4 @@ pub mod Pages
 pub mod Halves
 pub mod Ranges
 pub mod PageLists
+pub mod FilePages
