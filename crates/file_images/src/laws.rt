@@ -1,0 +1,7 @@
+//! The laws of images, as contracts of functions without code.
+ghost use Rattle.file_images.specs.Laws.{StandsOnce};
+
+/// The law of images: an image stands for one place, one table and one layout at most.
+pub fn image_law<const K: usize>()
+    ensures { StandsOnce K }
+{}

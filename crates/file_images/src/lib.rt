@@ -1,0 +1,6 @@
+//! What an image of a file stands for: laws on whole images, above the crates of its pages.
+#![tactic(auto)]
+
+mod laws;
+
+pub use laws::image_law;
