@@ -30,6 +30,10 @@ pub mod CutRegions
 pub mod LeastUnused
 pub mod RegionCounts
 pub mod LayoutKept
+pub mod Ascending
+pub mod Gathered
+pub mod Summed
+pub mod Divided
 pub mod NewLayout
 pub mod CutScales
 pub mod CutBoxes

@@ -1,6 +1,7 @@
 //! What the grid file means: definitions in `specs/`, and their laws as the contracts of functions without code.
 #![tactic(auto)]
 
+mod buckets;
 mod cuts;
 mod layouts;
 mod lone;
@@ -10,6 +11,7 @@ mod scales;
 mod scripts;
 mod tables;
 
+pub use buckets::bucket_law;
 pub use cuts::{cut_law, least_law};
 pub use layouts::{layout_law, region_law, unused_law};
 pub use lone::lone_law;
