@@ -1,3 +1,4 @@
 pub mod Joining
 pub mod Buckets
 pub mod Layouts
+pub mod Standing

@@ -5,7 +5,6 @@ use Rattle.std.proofs.lemmas.List.FromFn.{length-range_with_len}
 use Rattle.std.specs.List.{range_with_len}
 use Rattle.std.specs.Cmp.{nat_cmp_total, tied_itself}
 use Rattle.std.specs.FinMap.Entries.{find, is_sorted, below_all}
-use Rattle.grid_model.proofs.Numbered.{cmp-apart}
 use Rattle.grid_model.specs.Lists.{below, is_among, AreDistinct}
 use Rattle.grid_model.proofs.Truths.{part-one, part-two, or-left, or-right}
 
@@ -192,12 +191,3 @@ module _ {X : Type 0} where
       by : (t : Bool) → (e.0 == n) ≡ t → (t || is_among (map number es) n) ≡ true → (is_among (map number es) n ≡ true → IsSome (find nat_cmp n es)) → IsSome (find nat_cmp n (e ∷ es))
       by true q g rest = subst (λ t. IsSome (cond t (Some e.1) (find nat_cmp n es))) (sym (same (eqb-true e.0 n q))) refl
       by false q g rest = some (eq_by_cmp nat_cmp n e.0) (rest g)
-
-  -- a number that is found is an entry's
-  pub found-among : (es : List (ℕ × X)) (n : ℕ) → IsSome (find nat_cmp n es) → is_among (map number es) n ≡ true
-  found-among [] n h = absurd (true≢false (sym h))
-  found-among (e ∷ es) n h = by (e.0 == n) refl (found-among es n)
-    where
-      by : (t : Bool) → (e.0 == n) ≡ t → (IsSome (find nat_cmp n es) → is_among (map number es) n ≡ true) → is_among (map number (e ∷ es)) n ≡ true
-      by true q rest = ap (λ t. t || is_among (map number es) n) q
-      by false q rest = ap (λ t. t || is_among (map number es) n) q ∙ rest (subst (λ t. IsSome (cond t (Some e.1) (find nat_cmp n es))) (cmp-apart e.0 n q) h)

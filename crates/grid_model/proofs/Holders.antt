@@ -1,42 +1,25 @@
 -- The box that a key is found in.
-use Rattle.std.proofs.Common.{◌≡◌, ℕ, Bool, true, false, cond, T, List, [], ◌∷◌, Some, None, refl, sym, ap, subst, ◌∙◌, true≢false, nat_cmp, is_lt, IsSome}
+use Rattle.std.proofs.Common.{◌≡◌, ℕ, Bool, true, false, cond, T, List, [], ◌∷◌, Some, refl, sym, ap, subst, ◌∙◌, true≢false, nat_cmp, IsSome}
 use Rattle.std.specs.Ordering.{eq_by_cmp}
 use Rattle.std.specs.List as lists
 use Rattle.std.specs.FinMap.Entries.{find, is_sorted, below_all}
 use Rattle.grid_types.specs.Regions.{contains}
 use Rattle.grid_model.specs.Layouts.{BucketBox, Layout, box, holder}
+use Rattle.std.specs.Cmp.{nat_cmp_total}
+use Rattle.std.specs.FinMap.{nat_cmp-IsAntisymmetric}
+use Rattle.grid_model.proofs.Ascending.{first-found, behind-found}
 use Rattle.grid_model.proofs.Boxes.{one-value, some-not-none}
-use Rattle.grid_model.proofs.Found.{one-number, ties-itself}
-use Rattle.grid_model.proofs.Truths.{part-one, part-two, less-not-equal}
-
--- a number below those of all entries is none of theirs
-pub not-found-below : {X : Type 0} (n : ℕ) (es : List (ℕ × X)) → T (below_all nat_cmp n es) → find nat_cmp n es ≡ None
-not-found-below n [] h = refl
-not-found-below n (e ∷ es) h =
-    ap (λ b. cond b (Some e.1) (find nat_cmp n es)) (less-not-equal (nat_cmp n e.0) (part-one (is_lt (nat_cmp n e.0)) (below_all nat_cmp n es) h))
-    ∙ not-found-below n es (part-two (is_lt (nat_cmp n e.0)) (below_all nat_cmp n es) h)
+use Rattle.grid_model.proofs.Truths.{part-one, part-two}
 
 module _ {X : Type 0} where
-  -- what is found behind the first entry is found
-  found-later : (e : ℕ × X) (es : List (ℕ × X)) (n : ℕ) (x : X) → T (below_all nat_cmp e.0 es) → find nat_cmp n es ≡ Some x → find nat_cmp n (e ∷ es) ≡ Some x
-  found-later e es n x h f = by (eq_by_cmp nat_cmp n e.0) refl
-    where
-      by : (t : Bool) → eq_by_cmp nat_cmp n e.0 ≡ t → cond t (Some e.1) (find nat_cmp n es) ≡ Some x
-      by true p = absurd (some-not-none x (sym f ∙ ap (λ m. find nat_cmp m es) (one-number n e.0 p) ∙ not-found-below e.0 es h))
-      by false p = f
-
-  -- the first entry is found
-  found-first : (e : ℕ × X) (es : List (ℕ × X)) → find nat_cmp e.0 (e ∷ es) ≡ Some e.1
-  found-first e es = ap (λ t. cond t (Some e.1) (find nat_cmp e.0 es)) (ties-itself e.0)
-
   -- two tests that answer alike at each entry find the same one
   pub same-found : (p q : ℕ × X → Bool) (es : List (ℕ × X)) → T (is_sorted nat_cmp es) → ((n : ℕ) (x : X) → find nat_cmp n es ≡ Some x → p (n, x) ≡ q (n, x)) → lists.find p es ≡ lists.find q es
   same-found p q [] s h = refl
   same-found p q (e ∷ es) s h =
       let below = part-one (below_all nat_cmp e.0 es) (is_sorted nat_cmp es) s in
       let sorted = part-two (below_all nat_cmp e.0 es) (is_sorted nat_cmp es) s in
-      let here : p e ≡ q e = h e.0 e.1 (found-first e es) in
-      let rest : lists.find p es ≡ lists.find q es = same-found p q es sorted (λ n x f. h n x (found-later e es n x below f)) in
+      let here : p e ≡ q e = h e.0 e.1 (first-found nat_cmp nat_cmp_total nat_cmp-IsAntisymmetric e es) in
+      let rest : lists.find p es ≡ lists.find q es = same-found p q es sorted (λ n x f. h n x (behind-found nat_cmp nat_cmp_total nat_cmp-IsAntisymmetric e es n x below f)) in
       λ i. cond (here i) (Some e) (rest i)
 
 module _ {K : ℕ} (k : List ℕ) where
@@ -60,8 +43,8 @@ module _ {K : ℕ} (k : List ℕ) where
       by : (t : Bool) → contains x.1.region k ≡ t → cond t (Some x) (lists.find has es) ≡ Some e → (lists.find has es ≡ Some e → (find nat_cmp e.0 es ≡ Some e.1) × (contains e.1.region k ≡ true)) → (find nat_cmp e.0 (x ∷ es) ≡ Some e.1) × (contains e.1.region k ≡ true)
       by true p f rest =
           let same : x ≡ e = one-value x e f in
-          subst (λ (y : ℕ × BucketBox K). (find nat_cmp y.0 (x ∷ es) ≡ Some y.1) × (contains y.1.region k ≡ true)) same (found-first x es, p)
-      by false p f rest = (found-later x es e.0 e.1 (part-one (below_all nat_cmp x.0 es) (is_sorted nat_cmp es) s) (rest f).0, (rest f).1)
+          subst (λ (y : ℕ × BucketBox K). (find nat_cmp y.0 (x ∷ es) ≡ Some y.1) × (contains y.1.region k ≡ true)) same (first-found nat_cmp nat_cmp_total nat_cmp-IsAntisymmetric x es, p)
+      by false p f rest = (behind-found nat_cmp nat_cmp_total nat_cmp-IsAntisymmetric x es e.0 e.1 (part-one (below_all nat_cmp x.0 es) (is_sorted nat_cmp es) s) (rest f).0, (rest f).1)
 
 -- a key that some box has is found
 pub holder-finds : {K : ℕ} (k : List ℕ) (L : Layout K) (n : ℕ) (b : BucketBox K) → box L n ≡ Some b → contains b.region k ≡ true → IsSome (holder L k)
