@@ -7,3 +7,4 @@ pub mod Halves
 pub mod Ranges
 pub mod PageLists
 pub mod FilePages
+pub mod Owners
