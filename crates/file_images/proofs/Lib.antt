@@ -1,4 +1,6 @@
 pub mod Joining
 pub mod Buckets
 pub mod Layouts
+pub mod Slots
+pub mod Named
 pub mod Standing

@@ -3,4 +3,4 @@
 
 mod laws;
 
-pub use laws::image_law;
+pub use laws::{free_page_law, image_law};
