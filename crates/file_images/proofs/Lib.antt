@@ -4,3 +4,5 @@ pub mod Layouts
 pub mod Slots
 pub mod Named
 pub mod Standing
+pub mod Undamaged
+pub mod Staying

@@ -3,4 +3,4 @@
 
 mod laws;
 
-pub use laws::{free_page_law, image_law};
+pub use laws::{damage_law, free_page_law, image_law};
