@@ -8,8 +8,8 @@ ghost use Rattle.disk_trait.specs.Causes.{HasCause};
 ghost use Rattle.disk_trait.specs.Disk.{Agrees, Holds};
 ghost use Rattle.disk_trait.specs.Calls.{Changes, IsSynced};
 ghost use Rattle.grid_model.specs.Lawful.{IsBatch};
+ghost use Rattle.grid_model.specs.Slots.{HasBatch};
 ghost use Rattle.journal_slots.specs.Batches.{batch_of};
-ghost use Rattle.journal_slots.specs.Committing.{HasBatch};
 
 use crate::{Batch, encode};
 use disk_trait::{Disk, DiskFailed, write_through};
