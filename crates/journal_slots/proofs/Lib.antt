@@ -6,3 +6,6 @@ pub mod Stages
 pub mod OpenSlots
 pub mod OneScan
 pub mod Refused
+pub mod LastGates
+pub mod GoodPages
+pub mod Frames
