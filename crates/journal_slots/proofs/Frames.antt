@@ -1,17 +1,17 @@
 -- What an image says of gate pages, gates and slots stays where other bytes change, and one changed gate byte changes one gate.
-use Rattle.std.proofs.Common.{◌≡◌, ◌≢◌, ◌<◌, ◌≤◌, ◌⊎◌, inl, inr, ◌+◌, ◌-◌, ◌*◌, ℕ, List, [], ◌∷◌, length, take, drop, get_or, slice_index, sym, ap, subst, ◌∙◌, arith}
+use Rattle.std.proofs.Common.{◌≡◌, ◌≢◌, ◌<◌, ◌≤◌, ◌⊎◌, inl, inr, ◌+◌, ◌-◌, ◌*◌, ◌++◌, ℕ, List, length, take, drop, get_or, slice_index, replicate, sym, ap, subst, ◌∙◌, arith}
 use Rattle.std.specs.Prelude.{min, IsTrue, Some, slice_get, slice_set}
 use Rattle.std.proofs.lemmas.Bool.{cases_eq}
-use Rattle.std.proofs.lemmas.List.{length-take, length-drop, length-take-le, length-set, length-append, get_or-take, get_or-drop, get_or-set_same, get_or-set_other, ext_get_or}
+use Rattle.std.proofs.lemmas.List.{length-take, length-drop, length-take-le, length-set, length-append, length-replicate, get_or-replicate, get_or_append_left, get_or-append_right, get_or-take, get_or-drop, get_or-set_same, get_or-set_other, ext_get_or}
 use Rattle.grid_types.specs.declared.shape.Shape.{Shape}
 use Rattle.grid_types.specs.Pages.{page_of}
 use Rattle.grid_types.specs.Ranges.{slot_ranges}
 use Rattle.grid_types.specs.Shapes.{is_shape, slot_page, slot_gate_at}
 use Rattle.grid_types.specs.Shapes as places
 use Rattle.grid_types.proofs.Places.{within-limits, slot-page-lies}
-use Rattle.disk_trait.specs.Disk.{Agrees}
+use Rattle.disk_trait.specs.Disk.{Agrees, Holds}
 use Rattle.disk_trait.specs.Moments.{IsOutside, AgreesOutside}
-use Rattle.disk_trait.proofs.Pages.{page_apart, byte_apart, byte_of_page}
+use Rattle.disk_trait.proofs.Pages.{page_apart, byte_apart, byte_of_page, part_written}
 use Rattle.disk_trait.proofs.Ranges.{outside_part}
 use Rattle.page_fields.specs.Padded.{padded}
 use Rattle.page_fields.proofs.BytesOf.{length-padded}
@@ -19,6 +19,7 @@ use Rattle.grid_model.specs.Spellings.{LoggedBatch, gate_spelling}
 use Rattle.grid_model.specs.Images.{HasGatesOf, HasBatches}
 use Rattle.grid_model.specs.Slots.{HasBatch}
 use Rattle.journal_slots.specs.Gates.{gates_in, IsGateHead}
+use Rattle.journal_slots.proofs.DifferentPages.{pages_lie_apart, byte_off_range, gate_pages_differ, slot_page_is_no_gate_page, slot_pages_differ}
 use Rattle.journal_slots.proofs.GatePages.{gate_head, gate_page_is, length-gate_head, gates_joined, head_there, zeros_there, gates_there}
 
 -- two images have the same page
@@ -164,16 +165,11 @@ module _ (s : Shape) (half : ℕ) (few : s.slots ≤ 4000) where
       ]) in
       subst (λ (gs : List ℕ). HasGatesOf s d half gs) same now
 
--- two pages that are not one lie apart
-pages_lie_apart : (p q : ℕ) → p ≢ q → (p * 4096 + 4096 ≤ q * 4096) ⊎ (q * 4096 + 4096 ≤ p * 4096)
-pages_lie_apart p q apart = elim (below_or_behind p q apart) [ inl low ↦ inl (omega (arith, low)) | inr high ↦ inr (omega (arith, high)) ]
-  where
-    below_or_behind : (p q : ℕ) → p ≢ q → (p < q) ⊎ (q < p)
-    below_or_behind p q apart = grind (arith, apart)
-
--- a byte of one page lies outside of a range on another
-byte_off_range : (p q i at n : ℕ) → p ≢ q → p * 4096 ≤ i → i < p * 4096 + 4096 → q * 4096 ≤ at → at + n ≤ q * 4096 + 4096 → (i < at) ⊎ (at + n ≤ i)
-byte_off_range p q i at n apart low high from to = elim (pages_lie_apart p q apart) [ inl below ↦ inl (omega (arith, below, high, from)) | inr behind ↦ inr (omega (arith, behind, low, to)) ]
+-- a slot of the file that is not this one
+pub record IsOtherSlot (s : Shape) (half slot : ℕ) (other : ℕ × ℕ) : Type 0 where
+  pub two : other.0 < 2
+  pub inside : other.1 < s.slots
+  pub apart : (other.0 ≢ half) ⊎ (other.1 ≢ slot)
 
 -- what a commit on a slot leaves
 module _ (s : Shape) (half slot : ℕ) (lawful : IsTrue (is_shape s)) (two : half < 2) (inside : slot < s.slots) (c d : List ℕ) (a : AgreesOutside (slot_ranges s half slot) c d) where
@@ -196,8 +192,23 @@ module _ (s : Shape) (half slot : ℕ) (lawful : IsTrue (is_shape s)) (two : hal
       one_gate_changes s half few_slots slot gates c d two inside a.same_length has (λ j less apart.
       byte_of_page gp j d less ∙ a.each (gp * 4096 + j) (inl (omega (arith, behind, less)), (grind (arith, at, apart), tt)) ∙ sym (byte_of_page gp j c less))
 
+  -- the gates of the other half stay
+  pub other_half_stays_in_commit : (h : ℕ) (gates : List ℕ) → h < 2 → h ≢ half → HasGatesOf s c h gates → HasGatesOf s d h gates
+  other_half_stays_in_commit h gates too apart = gates_stay_by_page s h gates c d (page_stays_in_commit (places.gate_page s h) (λ e. slot_page_is_no_gate_page s lawful half slot h two too inside (sym e)) (gate_pages_differ s lawful h half too two apart))
+
+  -- the page of each other slot stays
+  pub slot_page_stays_in_commit : (other : ℕ × ℕ) → IsOtherSlot s half slot other → SamePage (slot_page s other.0 other.1) c d
+  slot_page_stays_in_commit other is = page_stays_in_commit (slot_page s other.0 other.1) (slot_pages_differ s lawful other.0 other.1 half slot is.two two is.inside inside is.apart) (slot_page_is_no_gate_page s lawful other.0 other.1 half is.two two is.inside)
+
+  -- so do the batches of other slots
+  pub batches_stay_in_commit : {K : ℕ} (slots : List (ℕ × ℕ)) (bs : List (LoggedBatch K)) → ((i : ℕ) (other : ℕ × ℕ) → slice_get slots i ≡ Some other → IsOtherSlot s half slot other) → HasBatches s c slots bs → HasBatches s d slots bs
+  batches_stay_in_commit slots bs others = batches_stay_by_page s slots bs c d (λ i other at. slot_page_stays_in_commit other (others i other at))
+
 -- what a change of gates, from one on, leaves
-module _ (s : Shape) (half from n : ℕ) (few : s.slots ≤ 4000) (two : half < 2) (fits : from + n ≤ s.slots) (c d : List ℕ) (a : Agrees (slot_gate_at s half from) n c d) where
+module _ (s : Shape) (half from n : ℕ) (lawful : IsTrue (is_shape s)) (two : half < 2) (fits : from + n ≤ s.slots) (c d : List ℕ) (a : Agrees (slot_gate_at s half from) n c d) where
+  few : s.slots ≤ 4000
+  few = (within-limits s lawful).few_slots
+
   -- each page but the gate page stays
   pub page_stays_in_clearing : (page : ℕ) → page ≢ places.gate_page s half → SamePage page c d
   page_stays_in_clearing page apart =
@@ -219,3 +230,40 @@ module _ (s : Shape) (half from n : ℕ) (few : s.slots ≤ 4000) (two : half < 
   other_gates_in_clearing gates more has now i lt beside =
       let listed : more ≡ gates_in s.slots (page_of (places.gate_page s half) d) = gates_there half more (page_of (places.gate_page s half) d) now.page ∙ ap (λ (k : ℕ). gates_in k (page_of (places.gate_page s half) d)) now.count in
       ap (λ (gs : List ℕ). slice_index gs i) listed ∙ other_gates_stay s half few two from n fits gates c d a.same_length has bytes_beside i lt beside
+
+  -- the gates of the other half stay
+  pub other_half_stays_in_clearing : (h : ℕ) (gates : List ℕ) → h < 2 → h ≢ half → HasGatesOf s c h gates → HasGatesOf s d h gates
+  other_half_stays_in_clearing h gates too apart = gates_stay_by_page s h gates c d (page_stays_in_clearing (places.gate_page s h) (gate_pages_differ s lawful h half too two apart))
+
+  -- the batches of all slots stay
+  pub batches_stay_in_clearing : {K : ℕ} (slots : List (ℕ × ℕ)) (bs : List (LoggedBatch K)) → ((i : ℕ) (slot : ℕ × ℕ) → slice_get slots i ≡ Some slot → (slot.0 < 2) × (slot.1 < s.slots)) → HasBatches s c slots bs → HasBatches s d slots bs
+  batches_stay_in_clearing slots bs inside = batches_stay_by_page s slots bs c d (λ i slot at. page_stays_in_clearing (slot_page s slot.0 slot.1) (slot_page_is_no_gate_page s lawful slot.0 slot.1 half (inside i slot at).0 two (inside i slot at).1))
+
+-- once the first gates were closed, they are 0 and the others are as they were
+pub cleared_gates : (s : Shape) (half used : ℕ) (lawful : IsTrue (is_shape s)) → half < 2 → used ≤ s.slots → (gates c d : List ℕ) → Agrees (slot_gate_at s half 0) used c d → Holds c (slot_gate_at s half 0) (replicate used 0) d → HasGatesOf s c half gates → HasGatesOf s d half (replicate used 0 ++ drop used gates)
+cleared_gates s half used lawful two fits gates c d a written has =
+    let few = (within-limits s lawful).few_slots in
+    let at = slot_gate_at s half 0 in
+    let now = gates_in_clearing s half 0 used lawful two (omega (arith, fits)) c d a gates has in
+    let more = gates_in s.slots (page_of (places.gate_page s half) d) in
+    let after = replicate {A = ℕ} used 0 ++ drop used gates in
+    let long : length after ≡ s.slots = omega (arith, length-append (replicate {A = ℕ} used 0) (drop used gates), length-replicate {A = ℕ} used 0, length-drop used gates, has.count, fits) in
+    let page_long : length (page_of (places.gate_page s half) c) ≡ 4096 = ap length has.page ∙ length-gate_spelling half gates (omega (arith, has.count, few)) in
+    let low : at ≤ length c = omega (arith, page_long, length-take 4096 (drop (places.gate_page s half * 4096) c), length-drop (places.gate_page s half * 4096) c, gate_at_is s half 0) in
+    let zeros : take used (drop at d) ≡ replicate {A = ℕ} used 0 = ap (λ (n : ℕ). take n (drop at d)) (sym (length-replicate {A = ℕ} used 0)) ∙ part_written c at (replicate used 0) d low written in
+    let same : more ≡ after = ext_get_or 0 more after (now.count ∙ sym long) (λ i h.
+    let less : i < s.slots = omega (arith, h, now.count) in
+    elim (closed_or_not i used) [
+      | inl closed ↦
+          let place : slot_gate_at s half i ≡ at + i = omega (arith, gate_at_is s half i, gate_at_is s half 0) in
+          let zero_there : slice_index d (at + i) ≡ 0 = sym (get_or-drop at d i 0) ∙ sym (get_or-take used (drop at d) i 0 closed) ∙ ap (λ (bytes : List ℕ). get_or bytes i 0) zeros ∙ get_or-replicate used i 0 0 closed in
+          gate_is_byte s half few i more d less now ∙ ap (slice_index d) place ∙ zero_there ∙ sym (get_or_append_left (replicate used 0) (drop used gates) 0 i (omega (arith, closed, length-replicate {A = ℕ} used 0)) ∙ get_or-replicate used i 0 0 closed)
+      | inr beside ↦
+          let k = i - used in
+          let place : used + k ≡ i = omega (arith, beside) in
+          other_gates_in_clearing s half 0 used lawful two (omega (arith, fits)) c d a gates more has now i less (inr (omega (arith, beside))) ∙ ap (slice_index gates) (sym place) ∙ sym (get_or-drop used gates k 0) ∙ sym (get_or-append_right (replicate {A = ℕ} used 0) (drop used gates) used i 0 (length-replicate {A = ℕ} used 0) beside)
+    ]) in
+    subst (λ (gs : List ℕ). HasGatesOf s d half gs) same now
+  where
+    closed_or_not : (i n : ℕ) → (i < n) ⊎ (n ≤ i)
+    closed_or_not i n = grind arith

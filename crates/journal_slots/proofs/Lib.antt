@@ -8,4 +8,5 @@ pub mod OneScan
 pub mod Refused
 pub mod LastGates
 pub mod GoodPages
+pub mod DifferentPages
 pub mod Frames
