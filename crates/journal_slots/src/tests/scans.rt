@@ -162,6 +162,8 @@ fn batches_are_joined_and_taken_apart(rt: HostRuntime) -> Result<(), Fail> {
     let mut batches = Batches::of(vec![in rt.alloc(); first]?);
     batches.append(Batches::of(vec![in rt.alloc(); second]?))?;
     let list = batches.into_list();
-    assert!(rt; matches!(list.as_slice(), [a, b] if is_of_each_kind(a, 7, 9) && is_of_each_kind(b, 5, 14)));
+    assert!(rt;
+        matches!(list.as_slice(), [a, b] if is_of_each_kind(a, 7, 9) && is_of_each_kind(b, 5, 14))
+    );
     Ok(())
 }

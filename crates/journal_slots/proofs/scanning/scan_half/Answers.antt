@@ -4,7 +4,7 @@ use Rattle.grid_model.specs.Images.{open_slots_of, last_gate}
 use Rattle.journal_slots.specs.Gates.{gates_in}
 use Rattle.journal_slots.specs.Scans.{AreBatchesOn, IsFirstBadSlot, AreFirstGood, IsToKeep}
 use Rattle.journal_slots.proofs.OneScan.{one_scan, the_gates, gates_read}
-use Rattle.journal_slots.proofs.GoodPages.{none_before, good_up_to}
+use Rattle.journal_slots.proofs.GoodPages.{good_up_to}
 use Rattle.journal_slots.proofs.Refused.{same_refusal, where_refused}
 use Rattle.journal_slots.proofs.scanning.scan_half.Goals as goal
 
