@@ -15,7 +15,7 @@ use disk_trait::{Disk, DiskFailed};
 use grid_types::{Geometry, Half};
 
 /// Writes a batch on its slot page, and once it is on the disk opens its gate. Where the gate was closed before, the batch
-/// counts as a whole or not at all at each moment, also where the call fails.
+/// counts as a whole or not at all at each moment, also where the call fails: that is `committing_law`.
 pub fn commit_batch<const K: usize, D: Disk>(
     disk: &mut D,
     geometry: &Geometry,

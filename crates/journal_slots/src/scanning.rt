@@ -7,7 +7,7 @@ ghost use Rattle.grid_types.specs.Pages.{page_of};
 ghost use Rattle.grid_types.specs.Shapes.{file_pages};
 ghost use Rattle.disk_trait.specs.Calls.{OnlyReads, HasCauses};
 ghost use Rattle.grid_model.specs.Images.{HasGatesOf, open_slots_of};
-ghost use Rattle.journal_slots.specs.declared.scan.Scan as found;
+ghost use Rattle.journal_slots.specs.declared.scan.Scan.{Scan};
 ghost use Rattle.journal_slots.specs.Scans.{AreBatchesOn, IsScan, SpellsSome, IsFirstBadSlot, IsFirstBadPage, AreFirstGood, IsGoodUpTo, IsRefusalOfScan, IsMore, SpellsOf, IsToKeep, WantsMemory};
 
 use crate::gates::{is_gate_page, is_open, slots_in_use};
@@ -121,7 +121,7 @@ pub fn scan_half<const K: usize, D: Disk, L: Ledger>(
     ensures found { IsTrue (D.honest disk.old)
         → IfOk result (IsScan geometry.now.shape (D.seen disk.old) (half_number half) session) }
     ensures only { IsTrue (D.honest disk.old)
-        → IfOk result (λ scan. (other : found.Scan K)
+        → IfOk result (λ scan. (other : Scan K)
         → IsScan geometry.now.shape (D.seen disk.old) (half_number half) session other
         → scan ≡ other) }
     ensures damaged { IsTrue (D.honest disk.old)
