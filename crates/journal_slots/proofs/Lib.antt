@@ -6,3 +6,7 @@ pub mod Stages
 pub mod OpenSlots
 pub mod OneScan
 pub mod Refused
+pub mod LastGates
+pub mod GoodPages
+pub mod DifferentPages
+pub mod Frames

@@ -6,7 +6,8 @@ use Rattle.grid_types.specs.declared.shape.Shape.{Shape}
 use Rattle.grid_types.specs.Pages.{page_of}
 use Rattle.grid_types.specs.Shapes as places
 use Rattle.grid_model.specs.Spellings.{LoggedBatch, gate_spelling}
-use Rattle.grid_model.specs.Images.{HasGatesOf, SpellsBatch, open_slots_of, HasBatches, of_session}
+use Rattle.grid_model.specs.Images.{HasGatesOf, SpellsBatch, open_slots_of, HasBatches, of_session, last_gate}
+use Rattle.journal_slots.specs.declared.scan.Scan.{Scan}
 use Rattle.journal_slots.specs.Gates.{gates_in}
 use Rattle.journal_slots.specs.Scans.{AreBatchesOn, IsScan}
 use Rattle.journal_slots.proofs.GatePages.{gates_there}
@@ -30,7 +31,8 @@ gates_read s image half page n out read is count few long spelled = record {
 }
 
 module _ {K : ℕ} (s : Shape) (image : List ℕ) (few : K ≤ 4) where
-  one_list : (slots : List (ℕ × ℕ)) (xs ys : List (LoggedBatch K)) → HasBatches s image slots xs → HasBatches s image slots ys → xs ≡ ys
+  -- the pages of some slots spell one list of batches
+  pub one_list : (slots : List (ℕ × ℕ)) (xs ys : List (LoggedBatch K)) → HasBatches s image slots xs → HasBatches s image slots ys → xs ≡ ys
   one_list slots xs ys x y =
       same_lists xs ys (x.count ∙ sym y.count) (λ i d lt.
       let slot : ℕ × ℕ = get_or slots i (0, 0) in
@@ -38,8 +40,10 @@ module _ {K : ℕ} (s : Shape) (image : List ℕ) (few : K ≤ 4) where
       one_spelled K (page_of (places.slot_page s slot.0 slot.1) image) (get_or xs i d) (get_or ys i d) few
       (x.each i slot (get_or xs i d) at (slice_get-get_or xs i d lt)) (y.each i slot (get_or ys i d) at (slice_get-get_or ys i d (omega (arith, lt, x.count, y.count)))))
 
-  pub one_scan : (half session : ℕ) (xs ys : List (LoggedBatch K)) → IsScan s image half session xs → IsScan s image half session ys → xs ≡ ys
-  one_scan half session xs ys x y =
+  pub one_scan : (half session : ℕ) (a b : Scan K) → IsScan s image half session a → IsScan s image half session b → a ≡ b
+  one_scan half session a b x y =
       let gates : y.gates ≡ x.gates = the_gates s image half y.gates y.spelled ∙ sym (the_gates s image half x.gates x.spelled) in
-      let found : AreBatchesOn s image (open_slots_of x.gates half) session ys = subst (λ (gs : List ℕ). AreBatchesOn s image (open_slots_of gs half) session ys) gates y.found in
-      x.found.are ∙ ap (of_session session) (one_list (open_slots_of x.gates half) x.found.all found.all x.found.each found.each) ∙ sym found.are
+      let found : AreBatchesOn s image (open_slots_of x.gates half) session b.batches = subst (λ (gs : List ℕ). AreBatchesOn s image (open_slots_of gs half) session b.batches) gates y.found in
+      let batches : a.batches ≡ b.batches = x.found.are ∙ ap (of_session session) (one_list (open_slots_of x.gates half) x.found.all found.all x.found.each found.each) ∙ sym found.are in
+      let used : a.used ≡ b.used = x.used ∙ ap last_gate (sym gates) ∙ sym y.used in
+      λ i. record { batches = batches i; used = used i }

@@ -41,7 +41,8 @@ range_more a (suc n) =
 below_more : (n : ℕ) → below (n + 1) ≡ below n ++ n ∷ []
 below_more n = range_more 0 n ∙ ap (λ (k : ℕ). range_with_len 0 n ++ k ∷ []) (omega arith)
 
-open_split : (gates : List ℕ) (half n : ℕ) → open_below gates half (n + 1) ≡ open_below gates half n ++ map (λ i. (half, i)) (filter (λ i. slice_index gates i == 1) (n ∷ []))
+-- one slot more, open or closed
+pub open_split : (gates : List ℕ) (half n : ℕ) → open_below gates half (n + 1) ≡ open_below gates half n ++ map (λ i. (half, i)) (filter (λ i. slice_index gates i == 1) (n ∷ []))
 open_split gates half n =
     let test : ℕ → Bool = λ i. slice_index gates i == 1 in
     let pair : ℕ → ℕ × ℕ = λ i. (half, i) in

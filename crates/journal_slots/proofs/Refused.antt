@@ -1,6 +1,6 @@
 -- A refusal that goes on to the caller.
 use Rattle.std.proofs.Common.{◌≡◌, ◌∙◌, refl, sym, ap}
-use Rattle.std.specs.Prelude.{Result, Err, IsErrAnd, IsErrOf}
+use Rattle.std.specs.Prelude.{Result, Ok, Err, IsErrAnd, IsErrOf, OnErr}
 use Rattle.std.proofs.lemmas.Result.{IfErr-at_err, err_from_is_err_and}
 use Rattle.grid_types.specs.declared.refusal.Refusal.{Refusal}
 
@@ -11,3 +11,8 @@ same_refusal {U = U} result e f goes is =
     let same : p.0 ≡ f = IfErr-at_err (λ x. p.0 ≡ x) (sym p.1 ∙ is) refl in
     let again : Refusal → Result U Refusal = λ x. Err x in
     ap again (sym p.2 ∙ same)
+
+-- what holds is so where a call is refused
+pub where_refused : {T E P : Type 0} (result : Result T E) → P → OnErr result P
+where_refused (Ok x) p = tt
+where_refused (Err e) p = p

@@ -1,33 +1,13 @@
--- What an image says of one slot and its gate.
-use Rattle.std.specs.Prelude.{◌≡◌, ◌≢◌, ◌⊎◌, ◌*◌, ◌∷◌, [], ℕ, List, slice_index}
+-- What a commit does to an image.
+use Rattle.std.specs.Prelude.{◌≡◌, ◌⊎◌, ℕ, List, slice_index}
 use Rattle.grid_types.specs.declared.shape.Shape.{Shape}
-use Rattle.grid_types.specs.declared.sizes.TheConstants.{PAGE_BYTES}
-use Rattle.grid_types.specs.Pages.{page_of}
-use Rattle.grid_types.specs.Shapes.{slot_page, slot_gate_at}
+use Rattle.grid_types.specs.Ranges.{slot_ranges}
+use Rattle.grid_types.specs.Shapes.{slot_gate_at}
+use Rattle.disk_trait.specs.Moments.{AgreesOutside}
 use Rattle.grid_model.specs.Spellings.{LoggedBatch}
-use Rattle.grid_model.specs.Images.{SpellsBatch}
+use Rattle.grid_model.specs.Slots.{HasBatch}
 
--- the gate of a slot is open where it is 1
-abbrev pub IsOpen : Shape → ℕ → ℕ → List ℕ → Type 0
-IsOpen s half slot image = slice_index image (slot_gate_at s half slot) ≡ 1
-
--- the gate of a slot is closed at any other value
-abbrev pub IsClosed : Shape → ℕ → ℕ → List ℕ → Type 0
-IsClosed s half slot image = slice_index image (slot_gate_at s half slot) ≢ 1
-
--- a slot's page spells this batch
-abbrev pub HasBatch : {K : ℕ} → Shape → ℕ → ℕ → LoggedBatch K → List ℕ → Type 0
-HasBatch s half slot b image = SpellsBatch (page_of (slot_page s half slot) image) b
-
--- the batch counts not at all or as a whole: its gate is closed, or its page spells it
-abbrev pub CountsWholeOrNot : {K : ℕ} → Shape → ℕ → ℕ → LoggedBatch K → List ℕ → Type 0
-CountsWholeOrNot s half slot b image = IsClosed s half slot image ⊎ HasBatch s half slot b image
-
--- the batch counts: its page spells it, and its gate is open
-pub record IsCommitted {K : ℕ} (s : Shape) (half slot : ℕ) (b : LoggedBatch K) (image : List ℕ) : Type 0 where
-  pub written : HasBatch s half slot b image
-  pub opened : IsOpen s half slot image
-
--- the bytes of a slot's page, and of its gate
-abbrev pub slot_ranges : Shape → ℕ → ℕ → List (ℕ × ℕ)
-slot_ranges s half slot = (slot_page s half slot * PAGE_BYTES, PAGE_BYTES) ∷ (slot_gate_at s half slot, 1) ∷ []
+-- each image left is one from before but for the slot's page and its gate; and its gate is as in that image, or its slot spells the batch
+pub record BatchStep {K : ℕ} (s : Shape) (half slot : ℕ) (b : LoggedBatch K) (old new : List ℕ) : Type 0 where
+  pub elsewhere : AgreesOutside (slot_ranges s half slot) old new
+  pub gate : (slice_index new (slot_gate_at s half slot) ≡ slice_index old (slot_gate_at s half slot)) ⊎ HasBatch s half slot b new

@@ -1,12 +1,13 @@
 -- What a scan of a half of the journal finds.
-use Rattle.std.specs.Prelude.{◌≡◌, ◌⊎◌, ◌<◌, ◌++◌, ◌∷◌, [], ℕ, List, slice_index}
+use Rattle.std.specs.Prelude.{◌≡◌, ◌⊎◌, ◌<◌, ◌++◌, ◌∷◌, [], ℕ, zero, suc, List, length, slice_get, slice_index, Some, ⊤}
 use Rattle.grid_types.specs.declared.shape.Shape.{Shape}
 use Rattle.grid_types.specs.declared.refusal.Refusal.{Refusal}
 use Rattle.grid_types.specs.declared.refusal.Refusal.TheVariants as refusal
 use Rattle.grid_types.specs.Pages.{page_of}
 use Rattle.grid_types.specs.Shapes as places
 use Rattle.grid_model.specs.Spellings.{LoggedBatch}
-use Rattle.grid_model.specs.Images.{HasGatesOf, SpellsBatch, open_slots_of, HasBatches, of_session}
+use Rattle.grid_model.specs.Images.{HasGatesOf, SpellsBatch, open_slots_of, HasBatches, of_session, last_gate}
+use Rattle.journal_slots.specs.declared.scan.Scan.{Scan}
 
 -- these are the batches of a session on some slots: each of the slots spells a batch, and of these they are those of the session
 pub record AreBatchesOn {K : ℕ} (s : Shape) (image : List ℕ) (slots : List (ℕ × ℕ)) (session : ℕ) (batches : List (LoggedBatch K)) : Type 0 where
@@ -14,11 +15,12 @@ pub record AreBatchesOn {K : ℕ} (s : Shape) (image : List ℕ) (slots : List (
   pub each : HasBatches s image slots all
   pub are : batches ≡ of_session session all
 
--- a scan of a half for a session finds these batches: its gate page is spelled, and they are the session's on its open slots, in order
-pub record IsScan {K : ℕ} (s : Shape) (image : List ℕ) (half session : ℕ) (batches : List (LoggedBatch K)) : Type 0 where
+-- a scan of a half for a session finds this: its gate page is spelled, the batches are the session's on its open slots, in order, and the slots in use are those up to the last gate that is not 0
+pub record IsScan {K : ℕ} (s : Shape) (image : List ℕ) (half session : ℕ) (scan : Scan K) : Type 0 where
   pub gates : List ℕ
   pub spelled : HasGatesOf s image half gates
-  pub found : AreBatchesOn s image (open_slots_of gates half) session batches
+  pub found : AreBatchesOn s image (open_slots_of gates half) session scan.batches
+  pub used : scan.used ≡ last_gate gates
 
 -- a slot's page spells some batch of K attributes
 pub record SpellsSome (K : ℕ) (bytes : List ℕ) : Type 0 where
@@ -48,6 +50,22 @@ pub record IsBadSlot (K : ℕ) (s : Shape) (image : List ℕ) (half page : ℕ) 
 -- a page is the first bad one of a half: its gate page, or else a page of an open slot
 abbrev pub IsFirstBadPage : (K : ℕ) → Shape → List ℕ → ℕ → ℕ → Type 0
 IsFirstBadPage K s image half page = IsBadGates s image half page ⊎ IsBadSlot K s image half page
+
+-- a half with these gates has more than n open slots, and each of the first n of them spells a batch
+pub record AreFirstGood (K : ℕ) (s : Shape) (image : List ℕ) (half : ℕ) (gates : List ℕ) (n : ℕ) : Type 0 where
+  pub more : n < length (open_slots_of gates half)
+  pub each : (i : ℕ) (slot : ℕ × ℕ) → i < n → slice_get (open_slots_of gates half) i ≡ Some slot → SpellsSome K (page_of (places.slot_page s slot.0 slot.1) image)
+
+-- the gate page of a half is spelled, there are more than n open slots, and each of the first n of them spells a batch
+pub record AreGoodSlots (K : ℕ) (s : Shape) (image : List ℕ) (half n : ℕ) : Type 0 where
+  pub gates : List ℕ
+  pub spelled : HasGatesOf s image half gates
+  pub first : AreFirstGood K s image half gates n
+
+-- a half is good up to its page n, where the gate page is page 0 and the open slots follow in order: the pages before that one are spelled
+abbrev pub IsGoodUpTo : (K : ℕ) → Shape → List ℕ → ℕ → ℕ → Type 0
+IsGoodUpTo K s image half zero = ⊤
+IsGoodUpTo K s image half (suc n) = AreGoodSlots K s image half n
 
 -- a page spells a batch, and after it these batches are those from before, with that one behind them where it is of the session
 pub record IsMore {K : ℕ} (bytes : List ℕ) (session : ℕ) (before after : List (LoggedBatch K)) : Type 0 where

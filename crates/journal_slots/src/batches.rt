@@ -32,6 +32,13 @@ impl<const K: usize> Batches<K> {
         }
     }
 
+    /// These batches, in the order of the list.
+    pub fn of(list: Vec<Batch<K>>) -> Batches<K>
+        ensures { result ≡ map batch_of list.entry.items }
+    {
+        Batches { list }
+    }
+
     /// Adds a batch at the end. Its only error is want of memory.
     pub(crate) fn push(&mut self, batch: Batch<K>) -> Result<(), AllocError>
         ensures added { OnOk result (self.new ≡ self.old ++ batch_of batch.entry ∷ []) }
@@ -39,6 +46,23 @@ impl<const K: usize> Batches<K> {
     {
         self.list.push(batch)?;
         Ok(())
+    }
+
+    /// Adds other batches behind these. Its only error is want of memory; then these are as they were, and the others are
+    /// let go.
+    pub fn append(&mut self, other: Batches<K>) -> Result<(), AllocError>
+        ensures added { OnOk result (self.new ≡ self.old ++ other.entry) }
+        ensures refused { OnErr result (self.new ≡ self.old) }
+    {
+        let mut others = other.list;
+        self.list.append(&mut others)
+    }
+
+    /// The list of the batches, in order.
+    pub fn into_list(self) -> Vec<Batch<K>>
+        ensures { map batch_of result.items ≡ self.entry }
+    {
+        self.list
     }
 
     /// The batches, in order.

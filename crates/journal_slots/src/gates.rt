@@ -2,6 +2,7 @@
 ghost use Rattle.std.specs.Prelude.{◌≡◌, ◌≤◌, ◌↔◌, IsTrue, length};
 ghost use Rattle.grid_types.specs.declared.sizes.TheConstants.{MOST_SLOTS};
 ghost use Rattle.grid_types.specs.Halves.{half_number};
+ghost use Rattle.grid_model.specs.Images.{last_gate};
 ghost use Rattle.grid_model.specs.Spellings.{gate_spelling};
 ghost use Rattle.journal_slots.specs.Gates.{IsGatePage, IsGateHead, gates_in};
 
@@ -52,4 +53,18 @@ pub fn is_gate_page(page: &[u8; PAGE_BYTES], half: Half, slots: u32) -> bool
         → page.now ≡ gate_spelling (half_number half) (gates_in slots page.now) }
 {
     has_head(page, half) && zeros(page, HEAD_BYTES + slots as usize, PAGE_BYTES)
+}
+
+/// How many slots are in use: those up to the last gate that is not 0.
+pub fn slots_in_use(gates: &[u8]) -> usize
+    ensures value { result ≡ last_gate gates.now }
+    ensures few { result ≤ length gates.now }
+{
+    let mut used = 0;
+    for (i, gate) in gates.iter().enumerate() {
+        if *gate != 0 {
+            used = i + 1;
+        }
+    }
+    used
 }

@@ -1,17 +1,17 @@
 //! The batches of a half of the journal.
-ghost use Rattle.std.specs.Prelude.{◌≡◌, ◌≤◌, ◌+◌, ◌*◌, [], List, ℕ, IsTrue, IfOk, OnOk, IsErrOf, length};
+ghost use Rattle.std.specs.Prelude.{◌≡◌, ◌≤◌, ◌+◌, ◌*◌, [], List, ℕ, IsTrue, IfOk, OnOk, IsErrOf, OnErr, length};
 ghost use Rattle.grid_types.specs.declared.refusal.Refusal.TheVariants.{Damaged, NoMemory};
 ghost use Rattle.grid_types.specs.declared.sizes.TheConstants.{PAGE_BYTES, MOST_SLOTS};
 ghost use Rattle.grid_types.specs.Halves.{half_number};
 ghost use Rattle.grid_types.specs.Pages.{page_of};
 ghost use Rattle.grid_types.specs.Shapes.{file_pages};
 ghost use Rattle.disk_trait.specs.Calls.{OnlyReads, HasCauses};
-ghost use Rattle.grid_model.specs.Spellings as model;
 ghost use Rattle.grid_model.specs.Images.{HasGatesOf, open_slots_of};
-ghost use Rattle.journal_slots.specs.Scans.{AreBatchesOn, IsScan, SpellsSome, IsFirstBadSlot, IsFirstBadPage, IsRefusalOfScan, IsMore, SpellsOf, IsToKeep, WantsMemory};
+ghost use Rattle.journal_slots.specs.declared.scan.Scan.{Scan};
+ghost use Rattle.journal_slots.specs.Scans.{AreBatchesOn, IsScan, SpellsSome, IsFirstBadSlot, IsFirstBadPage, AreFirstGood, IsGoodUpTo, IsRefusalOfScan, IsMore, SpellsOf, IsToKeep, WantsMemory};
 
-use crate::gates::{is_gate_page, is_open};
-use crate::{Batches, decode};
+use crate::gates::{is_gate_page, is_open, slots_in_use};
+use crate::{Batches, Scan, decode};
 use disk_trait::{Disk, Steps, read_page};
 use grid_types::{Geometry, HEAD_BYTES, Half, PAGE_BYTES, Refusal};
 use std::alloc::Global;
@@ -75,6 +75,11 @@ fn scan_slots<const K: usize, D: Disk, L: Ledger>(
     ensures no_memory { IsTrue (D.honest disk.old)
         → IsErrOf result NoMemory
         → IsToKeep K geometry.now.shape (D.seen disk.old) (half_number half) gates.now session }
+    ensures before { IsTrue (D.honest disk.old)
+        → (n : ℕ)
+        → steps.new ≡ steps.old + n + 1
+        → OnErr result (AreFirstGood K geometry.now.shape (D.seen disk.old) (half_number half)
+        gates.now n) }
     ensures causes { HasCauses D.Disk IsRefusalOfScan disk.old disk.new result }
     ensures ticks { steps.old ≤ steps.new }
     ensures all { OnOk result
@@ -100,8 +105,9 @@ fn slots_of(geometry: &Geometry) -> u32
     geometry.shape.slots
 }
 
-/// The batches of a session in a half of the journal: those on the slots whose gates are open, in order. An open gate is 1.
-/// A page that spells nothing where it has to is named; the first such page ends the scan.
+/// The batches of a session in a half of the journal: those on the slots whose gates are open, in order; and how many slots
+/// are in use. An open gate is 1. A page that spells nothing where it has to is named; the first such page ends the scan.
+/// Where the scan is refused, the pages that it read before the last one were good.
 pub fn scan_half<const K: usize, D: Disk, L: Ledger>(
     alloc: Global,
     disk: &mut D,
@@ -109,15 +115,15 @@ pub fn scan_half<const K: usize, D: Disk, L: Ledger>(
     half: Half,
     session: u64,
     steps: &mut Steps<L>,
-) -> Result<Batches<K>, Refusal>
+) -> Result<Scan<K>, Refusal>
     requires size { file_pages geometry.now.shape * PAGE_BYTES ≤ D.extent disk.old }
     requires few { K ≤ 4 }
     ensures found { IsTrue (D.honest disk.old)
         → IfOk result (IsScan geometry.now.shape (D.seen disk.old) (half_number half) session) }
     ensures only { IsTrue (D.honest disk.old)
-        → IfOk result (λ bs. (cs : List (model.LoggedBatch K))
-        → IsScan geometry.now.shape (D.seen disk.old) (half_number half) session cs
-        → bs ≡ cs) }
+        → IfOk result (λ scan. (other : Scan K)
+        → IsScan geometry.now.shape (D.seen disk.old) (half_number half) session other
+        → scan ≡ other) }
     ensures damaged { IsTrue (D.honest disk.old)
         → (p : ℕ)
         → IsErrOf result (Damaged p)
@@ -125,6 +131,11 @@ pub fn scan_half<const K: usize, D: Disk, L: Ledger>(
     ensures no_memory { IsTrue (D.honest disk.old)
         → IsErrOf result NoMemory
         → WantsMemory K geometry.now.shape (D.seen disk.old) (half_number half) session }
+    ensures before { IsTrue (D.honest disk.old)
+        → (n : ℕ)
+        → steps.new ≡ steps.old + n + 1
+        → OnErr result
+        (IsGoodUpTo K geometry.now.shape (D.seen disk.old) (half_number half) n) }
     ensures causes { HasCauses D.Disk IsRefusalOfScan disk.old disk.new result }
     ensures least { steps.old + 1 ≤ steps.new }
     ensures most { steps.new ≤ steps.old + 1 + geometry.now.shape.slots }
@@ -144,5 +155,9 @@ pub fn scan_half<const K: usize, D: Disk, L: Ledger>(
     let mut found = Batches::new(alloc);
     let gates = &bytes[HEAD_BYTES..HEAD_BYTES + slots as usize];
     scan_slots(disk, geometry, half, gates, session, &mut found, steps)?;
-    Ok(found)
+    let used = slots_in_use(gates) as u32;
+    Ok(Scan {
+        batches: found,
+        used,
+    })
 }

@@ -8,8 +8,8 @@ ghost use Rattle.disk_trait.specs.Causes.{HasCause};
 ghost use Rattle.disk_trait.specs.Disk.{Agrees, Holds};
 ghost use Rattle.disk_trait.specs.Calls.{Changes, IsSynced};
 ghost use Rattle.grid_model.specs.Lawful.{IsBatch};
+ghost use Rattle.grid_model.specs.Slots.{HasBatch};
 ghost use Rattle.journal_slots.specs.Batches.{batch_of};
-ghost use Rattle.journal_slots.specs.Committing.{HasBatch};
 
 use crate::{Batch, encode};
 use disk_trait::{Disk, DiskFailed, write_through};
@@ -19,7 +19,7 @@ use grid_types::{Geometry, HEAD_BYTES, Half, MOST_SLOTS, PAGE_BYTES};
 const CLOSED: [u8; MOST_SLOTS] = [0; MOST_SLOTS];
 
 /// The byte of a slot's gate, counted from the start of the file.
-fn gate_at(geometry: &Geometry, half: Half, slot: u32) -> u64
+pub(crate) fn gate_at(geometry: &Geometry, half: Half, slot: u32) -> u64
     requires inside { slot < geometry.now.shape.slots }
     ensures value { result ≡ slot_gate_at geometry.now.shape (half_number half) slot }
     ensures inside { result / PAGE_BYTES < file_pages geometry.now.shape }

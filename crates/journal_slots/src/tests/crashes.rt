@@ -1,5 +1,5 @@
 //! Runs that are cut off at each call of the disk, and what a scan finds then.
-ghost use Rattle.std.specs.Prelude.{◌≡◌, ◌≤◌, ◌*◌, IsTrue};
+ghost use Rattle.std.specs.Prelude.{◌≡◌, ◌≤◌, ◌*◌, IsTrue, IfOk};
 ghost use Rattle.grid_types.specs.Shapes.{file_pages};
 ghost use Rattle.disk_memory.specs.Memories.{extent_of};
 
@@ -29,9 +29,9 @@ fn found(alloc: Global, disk: &mut Memory, geometry: &Geometry) -> Option<usize>
     requires size { file_pages geometry.now.shape * 4096 ≤ extent_of disk.old }
 {
     match scan(alloc, disk, geometry, 7) {
-        Ok(batches) => {
-            if are_whole(batches.list()) {
-                Some(batches.list().len())
+        Ok(scan) => {
+            if are_whole(scan.batches.list()) {
+                Some(scan.batches.list().len())
             } else {
                 None
             }
@@ -47,7 +47,7 @@ fn committed(
     calls: u64,
     keep: Keep,
 ) -> Result<Outcome, AllocError>
-    requires slots { geometry.now.shape.slots ≡ 3 }
+    requires slots { geometry.now.shape.slots ≡ 4 }
 {
     let mut disk = Fused::new(closed(alloc, geometry)?, calls);
     let answered = commit(&mut disk, geometry, 1, 7, 9);
@@ -63,7 +63,7 @@ fn cleared(
     calls: u64,
     keep: Keep,
 ) -> Result<Outcome, AllocError>
-    requires slots { geometry.now.shape.slots ≡ 3 }
+    requires slots { geometry.now.shape.slots ≡ 4 }
 {
     let mut disk = closed(alloc, geometry)?;
     let _ = commit(&mut disk, geometry, 0, 7, 9);
@@ -106,5 +106,33 @@ fn a_crash_leaves_whole_batches(rt: HostRuntime) -> Result<(), Fail> {
             assert_eq!(rt; run.found, Some(left_by_clearing(calls, keep)));
         }
     }
+    Ok(())
+}
+
+/// A commit on a slot whose gate reads 7, cut off after so many calls, where other bytes stand in place of those that are
+/// not on the disk.
+fn torn(alloc: Global, geometry: &Geometry, calls: u64) -> Result<Memory, AllocError>
+    requires slots { geometry.now.shape.slots ≡ 4 }
+    ensures size { IfOk result (λ m. file_pages geometry.now.shape * 4096 ≤ extent_of m) }
+{
+    let mut disk = closed(alloc, geometry)?;
+    let _ = put_gate(&mut disk, geometry, 1, 7);
+    let _ = disk.sync();
+    let mut disk = Fused::new(disk, calls);
+    let _ = commit(&mut disk, geometry, 1, 7, 9);
+    disk.image(Keep::Changed)
+}
+
+#[test]
+fn a_torn_slot_under_a_gate_of_7_counts_nothing(rt: HostRuntime) -> Result<(), Fail> {
+    let geometry = small().ok_or("the shape is lawful")?;
+    for (calls, batches) in [(0, 0), (1, 0), (2, 0), (4, 1)] {
+        let mut image = torn(rt.alloc(), &geometry, calls)?;
+        let found = scan(rt.alloc(), &mut image, &geometry, 7);
+        assert!(rt; finds(found, batches, 2));
+    }
+    let mut image = torn(rt.alloc(), &geometry, 1)?;
+    assert!(rt; put_gate(&mut image, &geometry, 1, 1));
+    assert!(rt; is_damaged(scan(rt.alloc(), &mut image, &geometry, 7), 29));
     Ok(())
 }

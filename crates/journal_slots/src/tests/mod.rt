@@ -72,15 +72,15 @@ fn is_of_each_kind(batch: &Batch<2>, session: u64, first: u64) -> bool {
     again == page
 }
 
-/// The geometry of a file with 8 data pages and 3 slots.
+/// The geometry of a file with 8 data pages and 4 slots.
 fn small() -> Option<Geometry>
-    ensures { IfSome result (λ l. l.shape.slots ≡ 3) }
+    ensures { IfSome result (λ l. l.shape.slots ≡ 4) }
 {
     let shape = Shape {
         k: 2,
         capacity: 2,
         pages: 8,
-        slots: 3,
+        slots: 4,
         boundaries: 1000,
         cells: 1_000_000,
     };
@@ -93,7 +93,7 @@ fn close_all(disk: &mut Memory, geometry: &Geometry) -> bool
     ensures { extent_of disk.new ≡ extent_of disk.old }
 {
     let mut page = [9; 4096];
-    encode_gates(Half::Second, &[0; 3], &mut page);
+    encode_gates(Half::Second, &[0; 4], &mut page);
     let at = geometry.gate_page(Half::Second) as u64 * 4096;
     disk.write(at, &page).is_ok()
 }
@@ -106,6 +106,16 @@ fn closed(alloc: Global, geometry: &Geometry) -> Result<Memory, AllocError>
     let _ = close_all(&mut disk, geometry);
     let _ = disk.sync();
     Ok(disk)
+}
+
+/// Writes the gate of a slot of the second half.
+fn put_gate(disk: &mut Memory, geometry: &Geometry, slot: u32, gate: u8) -> bool
+    requires size { file_pages geometry.now.shape * 4096 ≤ extent_of disk.old }
+    requires few { slot < 4 }
+    ensures { extent_of disk.new ≡ extent_of disk.old }
+{
+    let at = geometry.gate_page(Half::Second) as u64 * 4096 + 96 + slot as u64;
+    disk.write(at, &[gate]).is_ok()
 }
 
 /// Commits that batch on a slot of the second half.
@@ -131,7 +141,7 @@ fn scan_with<L: Ledger>(
     geometry: &Geometry,
     session: u64,
     blank: Blank,
-) -> Result<Batches<2>, Refusal>
+) -> Result<Scan<2>, Refusal>
     requires size { file_pages geometry.now.shape * 4096 ≤ extent_of disk.old }
     requires name { blank.name ≡ L.name }
     requires parts { blank.parts ≡ L.parts }
@@ -148,9 +158,25 @@ fn scan(
     disk: &mut Memory,
     geometry: &Geometry,
     session: u64,
-) -> Result<Batches<2>, Refusal>
+) -> Result<Scan<2>, Refusal>
     requires size { file_pages geometry.now.shape * 4096 ≤ extent_of disk.old }
     ensures { extent_of disk.new ≡ extent_of disk.old }
 {
     scan_with::<Brand>(alloc, disk, geometry, session, Blank::new(1))
+}
+
+/// Whether a scan finds so many batches, and so many slots in use.
+fn finds(found: Result<Scan<2>, Refusal>, batches: usize, used: u32) -> bool {
+    match found {
+        Ok(scan) => scan.batches.list().len() == batches && scan.used == used,
+        Err(_) => false,
+    }
+}
+
+/// Whether a scan names that page as damaged.
+fn is_damaged(found: Result<Scan<2>, Refusal>, damaged: u32) -> bool {
+    match found {
+        Ok(_) => false,
+        Err(why) => why == Refusal::Damaged { page: damaged },
+    }
 }

@@ -3,29 +3,19 @@ use Rattle.std.proofs.lemmas.Result.{on_ok_weaker}
 use Rattle.grid_types.specs.Halves.{half_number}
 use Rattle.grid_types.specs.Shapes.{slot_gate_at}
 use Rattle.grid_types.proofs.HalvesLemmas.{half_small}
-use Rattle.disk_trait.proofs.Calls.{changes_wider, changes_then}
+use Rattle.disk_trait.proofs.Calls.{changes_wider}
 use Rattle.journal_slots.specs.Batches.{batch_of}
-use Rattle.journal_slots.proofs.Stages.{gate_inside, page_elsewhere, gate_elsewhere, whole_after_page, whole_after_gate, committed}
+use Rattle.journal_slots.proofs.Stages.{gate_inside, page_step, batch_changes, committed}
 use Rattle.journal_slots.proofs.committing.commit_batch.Goals as goal
-
-pub returns-in_err-write_batch-clause-whole : goal.returns-in_err-write_batch-clause-whole
-returns-in_err-write_batch-clause-whole g c = λ h closed.
-    whole_after_page c.args.geometry.now.shape (half_number c.args.half) c.args.slot c.args.geometry.now.lawful (half_small c.args.half) c.requires.inside (batch_of c.args.batch.now) _ _ c.write_batch.new.disk c.in_err-write_batch.ensures.changes h closed
 
 pub returns-in_err-write_batch-clause-changes : goal.returns-in_err-write_batch-clause-changes
 returns-in_err-write_batch-clause-changes g c =
-    changes_wider (page_elsewhere c.args.geometry.now.shape (half_number c.args.half) c.args.slot c.args.geometry.now.lawful (half_small c.args.half) c.requires.inside) c.in_err-write_batch.ensures.changes
-
-pub returns-clause-whole : goal.returns-clause-whole
-returns-clause-whole g c = λ h closed.
-    let w = c.in_ok-write_batch.ensures in
-    whole_after_gate c.args.geometry.now.shape (half_number c.args.half) c.args.slot c.args.geometry.now.lawful (half_small c.args.half) c.requires.inside (batch_of c.args.batch.now) _ _ _ w.changes c.open_gate.ensures.changes w.durable h (w.spelled h) closed
+    changes_wider (page_step c.args.geometry.now.shape (half_number c.args.half) c.args.slot c.args.geometry.now.lawful (half_small c.args.half) c.requires.inside (batch_of c.args.batch.now)) c.in_err-write_batch.ensures.changes
 
 pub returns-clause-changes : goal.returns-clause-changes
 returns-clause-changes g c =
-    let s = c.args.geometry.now.shape in
-    let n = half_number c.args.half in
-    changes_then (page_elsewhere s n c.args.slot c.args.geometry.now.lawful (half_small c.args.half) c.requires.inside) (gate_elsewhere s n c.args.slot c.args.geometry.now.lawful (half_small c.args.half) c.requires.inside) c.in_ok-write_batch.ensures.changes c.open_gate.ensures.changes
+    let w = c.in_ok-write_batch.ensures in
+    batch_changes c.args.geometry.now.shape (half_number c.args.half) c.args.slot c.args.geometry.now.lawful (half_small c.args.half) c.requires.inside (batch_of c.args.batch.now) _ _ _ w.changes w.durable w.spelled c.open_gate.ensures.changes
 
 pub returns-clause-committed : goal.returns-clause-committed
 returns-clause-committed g c = λ h.
@@ -35,4 +25,4 @@ returns-clause-committed g c = λ h.
     let told = w.changes.honest ∙ h in
     let low : slot_gate_at s n c.args.slot ≤ length (g.D.Disk.seen c.write_batch.new.disk) =
     omega (arith, gate_inside s n c.args.slot c.args.geometry.now.lawful (half_small c.args.half) c.requires.inside, c.requires.size, w.changes.extent, g.met.D.Disk.whole c.write_batch.new.disk told) in
-    on_ok_weaker _ (committed s n c.args.slot c.args.geometry.now.lawful (half_small c.args.half) c.requires.inside (batch_of c.args.batch.now) c.args.disk.now c.write_batch.new.disk c.open_gate.new.disk c.open_gate.ensures.changes told (w.spelled h) low) (c.open_gate.ensures.opened told)
+    on_ok_weaker _ (committed s n c.args.slot c.args.geometry.now.lawful (half_small c.args.half) c.requires.inside (batch_of c.args.batch.now) c.write_batch.new.disk c.open_gate.new.disk c.open_gate.ensures.changes told (w.spelled h) low) (c.open_gate.ensures.opened told)

@@ -6,7 +6,8 @@ use Rattle.grid_types.specs.Shapes.{slot_page}
 use Rattle.disk_trait.proofs.Calls.{reads_then}
 use Rattle.journal_slots.specs.Scans.{AreBatchesOn, SpellsSome, SpellsOf}
 use Rattle.journal_slots.proofs.OpenSlots.{open_count, open_same, open_few, found_more, before_more, before_same}
-use Rattle.journal_slots.proofs.Refused.{same_refusal}
+use Rattle.journal_slots.proofs.GoodPages.{passed_good}
+use Rattle.journal_slots.proofs.Refused.{same_refusal, where_refused}
 use Rattle.journal_slots.proofs.scanning.scan_slots.Goals as goal
 
 pub loop-slot-preserved-then-not-is_open : goal.loop-slot-preserved-then-not-is_open
@@ -68,3 +69,9 @@ returns-in_err-scan_slot-clause-most g c = omega (arith, c.in_err-scan_slot.ensu
 
 pub returns-clause-most : goal.returns-clause-most
 returns-clause-most g c = omega (arith, c.loop-slot.invariant.steps, open_few c.args.gates.now (half_number c.args.half) c.loop-slot.slot, c.loop-slot.auto.slot-end)
+
+pub returns-in_err-scan_slot-clause-before : goal.returns-in_err-scan_slot-clause-before
+returns-in_err-scan_slot-clause-before g c = λ h n e.
+    let was = c.loop-slot.invariant in
+    where_refused c.from_residual.result (passed_good c.args.geometry.now.shape (g.D.Disk.seen c.args.disk.now) c.args.session (half_number c.args.half) c.loop-slot.slot n c.args.gates.now c.loop-slot.found (omega (arith, c.loop-slot-test.true, c.requires.gates))
+    (c.is_open.ensures.0 c.if-not-is_open.false) (omega (arith, e, was.steps, c.in_err-scan_slot.ensures.ticks)) (was.found h))
