@@ -7,7 +7,8 @@ use Rattle.grid_types.specs.Shapes.{area_pages, header_page, table_page}
 use Rattle.grid_types.proofs.Places.{table-page, one-of-two}
 use Rattle.disk_trait.specs.Disk.{Agrees}
 use Rattle.disk_trait.proofs.Pages.{agrees_wider, page_apart}
-use Rattle.file_roots.specs.Places.{own_page, area_at, area_bytes, AreaPageAlone, AreaAlone}
+use Rattle.grid_types.specs.Ranges.{own_page, area_at, area_bytes}
+use Rattle.file_roots.specs.Places.{AreaPageAlone, AreaAlone}
 use Rattle.file_roots.proofs.Headers.{header_two}
 
 -- the pages of a table area stand one behind the other

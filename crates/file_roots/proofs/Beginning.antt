@@ -31,7 +31,7 @@ no_marks zero p = refl
 no_marks (suc n) zero = refl
 no_marks (suc n) (suc p) = no_marks n p
 
-module _ {K : ℕ} (s : Shape) (g : Gathered K) (scales : g.scales ≡ replicate K (bare_scale s.boundaries)) (parts : g.parts ≡ []) (table : g.table ≡ []) (marks : g.marks.items ≡ replicate s.pages false) where
+module _ {K : ℕ} (s : Shape) (g : Gathered K) (scales : g.scales ≡ replicate K (bare_scale s.boundaries)) (parts : g.parts.items ≡ []) (table : g.table.items ≡ []) (marks : g.marks.items ≡ replicate s.pages false) where
   pub has_room : HasRoom s g
   has_room = record {
     scales = ap length scales ∙ length-replicate K (bare_scale s.boundaries);
@@ -44,7 +44,7 @@ module _ {K : ℕ} (s : Shape) (g : Gathered K) (scales : g.scales ≡ replicate
 
   pub nothing_gathered : (image : List ℕ) (r : RootFields) → s.k ≡ K → IsRootOn s (header_page r.number) r → HasGathered s image r 0 g
   nothing_gathered image r attributes root =
-      let none : g.parts ++ pages_named g.table ≡ [] = ap (λ ys. ys ++ pages_named g.table) parts ∙ ap pages_named table in
+      let none : g.parts.items ++ pages_named g.table.items ≡ [] = ap (λ ys. ys ++ pages_named g.table.items) parts ∙ ap pages_named table in
       record {
         area = record {
           spelled = record {

@@ -1,5 +1,5 @@
--- What an image shows of its roots while one of them is closed and written anew, also after attempts that failed.
-use Rattle.std.proofs.Common.{◌≡◌, ◌≢◌, ◌<◌, inl, inr, ◌+◌, ℕ, List, [], ◌∷◌, IsTrue, sym, ap, subst, ◌∙◌, arith}
+-- Which root is the newest where another one may be written, is written, or was tried.
+use Rattle.std.proofs.Common.{◌≡◌, ◌≢◌, ◌<◌, inl, inr, ◌+◌, ℕ, List, IsTrue, sym, ap, subst, ◌∙◌, arith}
 use Rattle.std.specs.Prelude.{Option, Some, None}
 use Rattle.std.proofs.lemmas.Bool.{cases_eq}
 use Rattle.grid_types.specs.declared.shape.Shape.{Shape}
@@ -7,12 +7,13 @@ use Rattle.grid_types.specs.Shapes.{is_shape, header_page, header_gate_at}
 use Rattle.grid_types.proofs.Places.{one-of-two}
 use Rattle.grid_model.specs.Spellings.{RootFields}
 use Rattle.grid_model.specs.Images.{header_gate, IsOpenOver, IsOtherOlder}
-use Rattle.disk_trait.specs.Disk.{Agrees}
+use Rattle.grid_model.specs.Roots.{WholeRoot, AreRootFields, HasAreaOf, IsNewestWhole, ShowsOld, ShowsOldOrTried, ComesNext, KeepsOld, IsReady, HasFields, HasOlder, HasTried, HasOlderOrTried, IsReplaceable}
 use Rattle.file_roots.specs.Places.{GateAlone}
-use Rattle.file_roots.specs.Roots.{WholeRoot}
-use Rattle.file_roots.specs.Replacing.{IsNewestWhole, ShowsOld, IsOneOf, ComesNext, KeepsOld, IsReady, HasFields, HasOlder, HasTried, HasOneTried, IsReplaceable, NextMayBeWritten}
-use Rattle.file_roots.proofs.Headers.{header_two, fields_stay, area_above}
-use Rattle.file_roots.proofs.Stages.{other_header, apart_on_header, kept_stays}
+use Rattle.file_roots.specs.Replacing.{NextMayBeWritten}
+use Rattle.file_roots.specs.Writing.{closed_gate, HasNewFields, IsHeaderWritten, HeaderStep}
+use Rattle.file_roots.proofs.Headers.{header_two, other_header, fields_stay}
+use Rattle.file_roots.proofs.Frames.{other_by_page, kept_by_pages, under_by}
+use Rattle.file_roots.proofs.Alone.{gate_in_header, gate_in_root, header_in_root, other_root_stays, area_above, ready_fields}
 
 module _ (s : Shape) where
   -- fields under an open gate
@@ -55,112 +56,111 @@ module _ (s : Shape) where
     area = keeps.area;
   }
 
-  -- a root that was tried is the newest under its open gate
-  shows_tried : (number : ℕ) (old : Option WholeRoot) (w : WholeRoot) (c : List ℕ) → KeepsOld s number old c → header_gate c (header_page number) ≡ 1 → HasTried s (header_page number) old w c → IsNewestWhole s w c
+  -- the root that was tried is the newest under its open gate
+  shows_tried : (number : ℕ) (old : Option WholeRoot) (w : WholeRoot) (c : List ℕ) → KeepsOld s number old c → header_gate c (header_page number) ≡ 1 → HasTried s (header_page number) old (Some w) c → IsNewestWhole s w c
   shows_tried number old w c keeps gate has =
-      let own : header_page w.fields.number ≡ header_page number = has.fields.lawful.parity in
+      let own : header_page w.fields.number ≡ header_page number = has.0.lawful.parity in
       record {
         newest = record {
-          opens = subst (λ h. IsOpenOver s c h w.fields) (sym own) (open_over_fields (header_page number) w.fields c gate has.fields);
-          other = kept_is_older w.fields.number old c has.next (kept_beside_other number w.fields.number old c own keeps);
+          opens = subst (λ h. IsOpenOver s c h w.fields) (sym own) (open_over_fields (header_page number) w.fields c gate has.0);
+          other = kept_is_older w.fields.number old c has.2 (kept_beside_other number w.fields.number old c own keeps);
         };
-        area = has.area;
+        area = has.1;
       }
 
-  -- the old root is one of any
-  pub old_is_one : (old : Option WholeRoot) (others : List WholeRoot) (c : List ℕ) → ShowsOld s old c → IsOneOf s old others c
-  old_is_one old [] c shows = shows
-  old_is_one old (w ∷ ws) c shows = inr (old_is_one old ws c shows)
+  old_is_shown : (old tried : Option WholeRoot) (c : List ℕ) → ShowsOld s old c → ShowsOldOrTried s old tried c
+  old_is_shown old None c shows = shows
+  old_is_shown old (Some w) c shows = inr shows
 
-  tried_is_one : (number : ℕ) (old : Option WholeRoot) (tried : List WholeRoot) (c : List ℕ) → KeepsOld s number old c → header_gate c (header_page number) ≡ 1 → HasOneTried s (header_page number) old tried c → IsOneOf s old tried c
-  tried_is_one number old [] c keeps gate has = absurd has
-  tried_is_one number old (w ∷ ws) c keeps gate (inl is) = inl (shows_tried number old w c keeps gate is)
-  tried_is_one number old (w ∷ ws) c keeps gate (inr more) = inr (tried_is_one number old ws c keeps gate more)
+  tried_is_shown : (number : ℕ) (old tried : Option WholeRoot) (c : List ℕ) → KeepsOld s number old c → header_gate c (header_page number) ≡ 1 → HasTried s (header_page number) old tried c → ShowsOldOrTried s old tried c
+  tried_is_shown number old None c keeps gate has = absurd has
+  tried_is_shown number old (Some w) c keeps gate has = inl (shows_tried number old w c keeps gate has)
 
-  -- where a root may be written, the old one or one that was tried is the newest
-  pub old_or_tried_is_newest : (number gate : ℕ) (old : Option WholeRoot) (tried : List WholeRoot) (c : List ℕ) → ComesNext old number → IsReplaceable s number gate old tried c → IsOneOf s old tried c
-  old_or_tried_is_newest number gate old tried c comes is = elim (cases_eq (header_gate c (header_page number)) 1) [
-    | inr shut ↦ old_is_one old tried c (shows_old number old c comes (record { keeps = is.keeps; closed = shut }))
+  -- where a root may be written, the old one or the one that was tried is the newest
+  pub old_or_tried_is_newest : (number : ℕ) (old tried : Option WholeRoot) (c : List ℕ) → ComesNext old number → IsReplaceable s number old tried c → ShowsOldOrTried s old tried c
+  old_or_tried_is_newest number old tried c comes is = elim (cases_eq (header_gate c (header_page number)) 1) [
+    | inr shut ↦ old_is_shown old tried c (shows_old number old c comes (record { keeps = is.keeps; closed = shut }))
     | inl open_now ↦ elim is.under [
-      | inl closed ↦ absurd (closed.1 open_now)
+      | inl closed ↦ absurd (closed open_now)
       | inr has ↦ elim has [
-        | inl older ↦ old_is_one old tried c (shows_above number old c comes is.keeps open_now older)
-        | inr one ↦ tried_is_one number old tried c is.keeps open_now one
+        | inl older ↦ old_is_shown old tried c (shows_above number old c comes is.keeps open_now older)
+        | inr one ↦ tried_is_shown number old tried c is.keeps open_now one
       ]
     ]
   ]
 
-  -- one root more
-  pub one_of_more : (old : Option WholeRoot) (w : WholeRoot) (ws : List WholeRoot) (c : List ℕ) → IsOneOf s old (w ∷ []) c → IsOneOf s old (w ∷ ws) c
-  one_of_more old w ws c (inl is) = inl is
-  one_of_more old w ws c (inr shows) = inr (old_is_one old ws c shows)
-
-  pub tried_before : (number gate : ℕ) (old : Option WholeRoot) (w : WholeRoot) (ws : List WholeRoot) (c : List ℕ) → IsReplaceable s number gate old ws c → IsReplaceable s number gate old (w ∷ ws) c
-  tried_before number gate old w ws c is = record {
-    keeps = is.keeps;
-    under = elim is.under [ inl closed ↦ inl closed | inr has ↦ inr (elim has [ inl older ↦ inl older | inr one ↦ inr (inr one) ]) ];
-  }
-
-  pub tried_now : (number gate : ℕ) (old : Option WholeRoot) (w : WholeRoot) (ws : List WholeRoot) (c : List ℕ) → IsReplaceable s number gate old (w ∷ []) c → IsReplaceable s number gate old (w ∷ ws) c
-  tried_now number gate old w ws c is = record {
-    keeps = is.keeps;
-    under = elim is.under [ inl closed ↦ inl closed | inr has ↦ inr (elim has [ inl older ↦ inl older | inr one ↦ inr (elim one [ inl tried ↦ inl tried | inr none ↦ absurd none ]) ]) ];
-  }
-
-  module _ (lawful : IsTrue (is_shape s)) where
-    has_stays : (header : ℕ) (r : RootFields) (c d : List ℕ) → Agrees (header_gate_at header) 1 c d → HasFields s header r c → HasFields s header r d
-    has_stays header r c d a has = record { spelled = fields_stay (header_gate_at header) 1 header c d (inr (omega arith)) a ∙ has.spelled; lawful = has.lawful }
-
-    older_stays : (header : ℕ) (old : Option WholeRoot) (c d : List ℕ) → Agrees (header_gate_at header) 1 c d → HasOlder s header old c → HasOlder s header old d
-    older_stays header None c d a has = has
-    older_stays header (Some old) c d a has = (has.0, has_stays header has.0 c d a has.1, has.2)
-
-    tried_stays : (number : ℕ) (old : Option WholeRoot) (tried : List WholeRoot) (c d : List ℕ) → GateAlone number c d → HasOneTried s (header_page number) old tried c → HasOneTried s (header_page number) old tried d
-    tried_stays number old [] c d a has = has
-    tried_stays number old (w ∷ ws) c d a (inl is) = inl (record {
-      fields = has_stays (header_page number) w.fields c d a is.fields;
-      area = area_above s (header_gate_at (header_page number)) 1 w.fields w.area c d lawful (omega (arith, header_two number)) a is.area;
-      next = is.next;
-    })
-    tried_stays number old (w ∷ ws) c d a (inr more) = inr (tried_stays number old ws c d a more)
-
-    module _ (number : ℕ) (old : Option WholeRoot) (comes : ComesNext old number) (tried : List WholeRoot) where
-      kept : (c d : List ℕ) → GateAlone number c d → KeepsOld s number old c → KeepsOld s number old d
-      kept c d a keeps =
-          let at = header_gate_at (header_page number) in
-          kept_stays s number at 1 (apart_on_header s number lawful at 1 (omega arith) (omega arith)) c d a old comes keeps
-
-      -- once the gate is closed, the new root may be written
-      pub closed_ready : (gate : ℕ) (c d : List ℕ) → IsReplaceable s number gate old tried c → GateAlone number c d → header_gate d (header_page number) ≢ 1 → IsReady s number old d
-      closed_ready gate c d is a shut = record { keeps = kept c d a is.keeps; closed = shut }
-
-      -- while a gate that reads as open is closed, it may be tried again, whatever it reads as then
-      pub while_closing : (gate then : ℕ) (c d : List ℕ) → gate ≡ 1 → IsReplaceable s number gate old tried c → GateAlone number c d → IsReplaceable s number then old tried d
-      while_closing gate then c d one is a = record {
-        keeps = kept c d a is.keeps;
-        under = elim is.under [
-          | inl closed ↦ absurd (closed.0 one)
-          | inr has ↦ inr (elim has [ inl older ↦ inl (older_stays (header_page number) old c d a older) | inr other ↦ inr (tried_stays number old tried c d a other) ])
-        ];
-      }
+  -- where a root may be written and opened, it may be closed and written
+  pub ready_is_replaceable : (number : ℕ) (old tried : Option WholeRoot) (c : List ℕ) → IsReady s number old c → IsReplaceable s number old tried c
+  ready_is_replaceable number old tried c ready = record { keeps = ready.keeps; under = inl ready.closed }
 
 -- where the old root is the newest, or there is none, the next may be written
 pub next_may_be_written : NextMayBeWritten
-next_may_be_written s number gate None image comes none is =
+next_may_be_written s number None image comes none =
     let shut : (header : ℕ) → header < 2 → header_gate image header ≢ 1 = λ header two. elim (one-of-two header two) [
       | inl zeroth ↦ λ e. none.zeroth (ap (header_gate image) (sym zeroth) ∙ e)
       | inr first ↦ λ e. none.first (ap (header_gate image) (sym first) ∙ e)
     ] in
-    let closed = shut (header_page number) (header_two number) in
-    record { keeps = shut (header_page (number + 1)) (header_two (number + 1)); under = inl (λ e. closed (is ∙ e), closed) }
-next_may_be_written s number gate (Some old) image comes whole is =
+    record { keeps = shut (header_page (number + 1)) (header_two (number + 1)); under = inl (shut (header_page number) (header_two number)) }
+next_may_be_written s number (Some old) image comes whole =
     let next : header_page (old.fields.number + 1) ≡ header_page number = other_header old.fields.number number comes.apart in
     record {
       keeps = record { opens = whole.newest.opens; area = whole.area };
       under = elim whole.newest.other [
-        | inl shut ↦ let closed : header_gate image (header_page number) ≢ 1 = λ e. shut (ap (header_gate image) next ∙ e) in inl (λ e. closed (is ∙ e), closed)
+        | inl shut ↦ inl (λ e. shut (ap (header_gate image) next ∙ e))
         | inr older ↦
             let opens = subst (λ h. IsOpenOver s image h older.0) next older.1 in
             inr (inl (older.0, record { spelled = opens.spelled; lawful = opens.lawful }, older.2))
       ];
+    }
+
+-- a gate that was closed is not open
+pub closed_gate_shut : (gate : ℕ) → closed_gate gate ≢ 1
+closed_gate_shut gate = elim (cases_eq gate 1) [
+  | inl one ↦ λ e. absurd (omega (arith, ap closed_gate one, e))
+  | inr other ↦ λ e. other (sym (closed_other gate other) ∙ e)
+]
+  where
+    closed_other : (gate : ℕ) → gate ≢ 1 → closed_gate gate ≡ gate
+    closed_other gate other = grind (arith, other)
+
+module _ (s : Shape) (lawful : IsTrue (is_shape s)) (number : ℕ) (old : Option WholeRoot) (comes : ComesNext old number) (c d : List ℕ) (alone : GateAlone number c d) where
+  -- fields, table areas and the old root stay while a gate is closed
+  closing_keeps : KeepsOld s number old c → KeepsOld s number old d
+  closing_keeps keeps = kept_by_pages s c d number old (other_root_stays s lawful number c d (gate_in_root s number c d alone)) comes keeps
+
+  -- what stands under the gate stays
+  pub under_gate : (tried : Option WholeRoot) → HasOlderOrTried s (header_page number) old tried c → HasOlderOrTried s (header_page number) old tried d
+  under_gate tried has = under_by s c d (area_above s lawful number c d (gate_in_header number c d alone)) (header_page number) old tried (fields_stay (header_gate_at (header_page number)) 1 (header_page number) c d (inr (omega arith)) alone) has
+
+  -- once the gate is closed, the next root may be written and opened
+  pub ready_once_closed : KeepsOld s number old c → header_gate d (header_page number) ≢ 1 → IsReady s number old d
+  ready_once_closed keeps shut = record { keeps = closing_keeps keeps; closed = shut }
+
+  -- while a gate that reads as open is closed, it may be closed and written
+  pub while_closing : (tried : Option WholeRoot) → KeepsOld s number old c → HasOlderOrTried s (header_page number) old tried c → IsReplaceable s number old tried d
+  while_closing tried keeps has = record { keeps = closing_keeps keeps; under = inr (under_gate tried has) }
+
+module _ (s : Shape) (lawful : IsTrue (is_shape s)) (new : WholeRoot) (root : AreRootFields s new.fields) (old : Option WholeRoot) (comes : ComesNext old new.fields.number) where
+  -- the new root was tried in an image that is what reads gave, but for its gate and its fields
+  pub tried_there : (seen d : List ℕ) → HasAreaOf s new seen → HasNewFields new.fields seen d → HasOlderOrTried s (header_page new.fields.number) old (Some new) d
+  tried_there seen d area now = inr (record { spelled = now.fields_are; lawful = root }, area_above s lawful new.fields.number seen d now.elsewhere new.fields new.area area, comes)
+
+  -- at each step of writing its header page a root may be closed and written again
+  pub header_step_is_replaceable : (seen c d : List ℕ) → HasAreaOf s new seen → IsReady s new.fields.number old seen → IsReady s new.fields.number old c → HeaderStep new.fields seen c d → IsReplaceable s new.fields.number old (Some new) d
+  header_step_is_replaceable seen c d area ready was (inl fields) = ready_is_replaceable s new.fields.number old (Some new) d (ready_fields s lawful new.fields.number c d old comes fields was)
+  header_step_is_replaceable seen c d area ready was (inr now) = record {
+    keeps = kept_by_pages s seen d new.fields.number old (other_root_stays s lawful new.fields.number seen d (header_in_root s new.fields.number seen d now.elsewhere)) comes ready.keeps;
+    under = inr (tried_there seen d area now);
+  }
+
+-- once its header page is written, a root is the newest where the other header page is older, and its table area is whole
+pub newest_once_written : (s : Shape) (lawful : IsTrue (is_shape s)) (new : WholeRoot) → AreRootFields s new.fields → (seen d : List ℕ) → HasAreaOf s new seen → IsOtherOlder s new.fields.number seen → IsHeaderWritten new.fields seen d → IsNewestWhole s new d
+newest_once_written s lawful new root seen d area other now =
+    let number = new.fields.number in
+    record {
+      newest = record {
+        opens = record { gate = now.opened; spelled = now.written.fields_are; lawful = root };
+        other = other_by_page s seen d number (other_root_stays s lawful number seen d (header_in_root s number seen d now.written.elsewhere)).header other;
+      };
+      area = area_above s lawful number seen d now.written.elsewhere new.fields new.area area;
     }

@@ -1,17 +1,21 @@
--- What stays of header pages and table areas where a range of an image changes.
-use Rattle.std.proofs.Common.{◌≡◌, ◌≢◌, ◌<◌, ◌≤◌, ◌⊎◌, inl, inr, ◌+◌, ◌*◌, ℕ, List, take, drop, slice_index, IsTrue, sym, ap, ◌∙◌, arith}
+-- Where header pages and table areas lie, and their bytes as bytes of the image.
+use Rattle.std.proofs.Common.{◌≡◌, ◌≢◌, ◌<◌, ◌≤◌, ◌⊎◌, inl, inr, ◌+◌, ◌*◌, ℕ, List, take, drop, slice_index, IsTrue, sym, ◌∙◌, arith}
 use Rattle.grid_types.specs.declared.shape.Shape.{Shape}
+use Rattle.grid_types.specs.declared.sizes.TheConstants.{PAGE_BYTES}
 use Rattle.grid_types.specs.Shapes.{is_shape, area_pages, file_pages, header_page, table_page, header_gate_at, root_fields_at}
+use Rattle.grid_types.specs.Ranges.{area_at, area_bytes}
 use Rattle.grid_types.proofs.Places.{table-page, table-page-lies, one-of-two}
-use Rattle.grid_model.specs.Spellings.{RootFields}
-use Rattle.grid_model.specs.Lawful.{Area}
-use Rattle.grid_model.specs.Images.{header_gate, root_fields, IsOpenOver, HasArea}
+use Rattle.grid_model.specs.Images.{header_gate, root_fields}
 use Rattle.disk_trait.specs.Disk.{Agrees}
-use Rattle.disk_trait.proofs.Pages.{page_apart, part_apart, byte_apart, byte_of_page, part_of_page}
+use Rattle.disk_trait.proofs.Pages.{part_apart, byte_apart, byte_of_page, part_of_page}
 
 -- the header page of a number is one of two
 pub header_two : (n : ℕ) → header_page n < 2
 header_two n = omega arith
+
+-- the header page behind a root's is the other one
+pub other_header : (n m : ℕ) → header_page n ≢ header_page m → header_page (n + 1) ≡ header_page m
+other_header n m apart = grind (arith, apart)
 
 -- both header pages lie in the file
 pub header_inside : (s : Shape) (header size : ℕ) → IsTrue (is_shape s) → header < 2 → file_pages s * 4096 ≤ size → header * 4096 + 4096 ≤ size
@@ -35,24 +39,17 @@ gate_stays at n header c d apart a = gate_is d header ∙ byte_apart at n (heade
 pub fields_stay : (at n header : ℕ) (c d : List ℕ) → (root_fields_at header + 56 ≤ at) ⊎ (at + n ≤ root_fields_at header) → Agrees at n c d → root_fields d header ≡ root_fields c header
 fields_stay at n header c d apart a = fields_are d header ∙ part_apart at n (root_fields_at header) 56 c d apart a ∙ sym (fields_are c header)
 
--- an open root stays where neither its gate nor its fields change
-pub open_stays : (s : Shape) (header : ℕ) (r : RootFields) (c d : List ℕ) → header_gate d header ≡ header_gate c header → root_fields d header ≡ root_fields c header → IsOpenOver s c header r → IsOpenOver s d header r
-open_stays s header r c d gate fields o = record { gate = gate ∙ o.gate; spelled = fields ∙ o.spelled; lawful = o.lawful }
+-- bytes of one page lie apart from those of another
+pub off_page : (p q at n : ℕ) → p ≢ q → q * 4096 ≤ at → at + n ≤ q * 4096 + 4096 → (p * 4096 + 4096 ≤ at) ⊎ (at + n ≤ p * 4096)
+off_page p q at n apart low high = grind (arith, apart, low, high)
 
--- an open root stays where its header page does not change
-pub open_apart : (s : Shape) (at n header : ℕ) (r : RootFields) (c d : List ℕ) → (header * 4096 + 4096 ≤ at) ⊎ (at + n ≤ header * 4096) → Agrees at n c d → IsOpenOver s c header r → IsOpenOver s d header r
-open_apart s at n header r c d apart a o =
-    let same = page_apart at n header c d apart a in
-    open_stays s header r c d (ap (λ p. slice_index p 64) same) (ap (λ p. take 56 (drop 72 p)) same) o
+-- both header pages lie before a table area
+pub area_high : (s : Shape) (number : ℕ) → IsTrue (is_shape s) → 2 * PAGE_BYTES ≤ area_at s number
+area_high s number lawful = let p = table-page-lies s (header_page number) 0 lawful (header_two number) (omega arith) in omega (arith, p.first)
 
--- a table area stays where only header pages change
-pub area_above : (s : Shape) (at n : ℕ) (r : RootFields) (a : Area) (c d : List ℕ) → IsTrue (is_shape s) → at + n ≤ 8192 → Agrees at n c d → HasArea s c r a → HasArea s d r a
-area_above s at n r a c d lawful low agrees area = record {
-  lawful = area.lawful;
-  pages = λ i lt.
-      let p = table-page-lies s (header_page r.number) i lawful (header_two r.number) lt in
-      page_apart at n (table_page s (header_page r.number) i) c d (inr (omega (arith, low, p.first))) agrees ∙ area.pages i lt;
-}
+-- so does each gate
+pub gate_off_area : (s : Shape) (number : ℕ) → IsTrue (is_shape s) → (header_gate_at (header_page number) < area_at s number) ⊎ (area_at s number + area_bytes s ≤ header_gate_at (header_page number))
+gate_off_area s number lawful = inl (omega (arith, area_high s number lawful, header_two number))
 
 -- the bytes of two different table areas lie apart
 pub areas_apart : (s : Shape) (area other i : ℕ) → area < 2 → other < 2 → area ≢ other → i < area_pages s

@@ -1,6 +1,7 @@
 pub mod Headers
 pub mod Outcomes
-pub mod Stages
+pub mod Frames
+pub mod Alone
 pub mod Counting
 pub mod Slices
 pub mod Areas

@@ -34,23 +34,22 @@ module _ (s : Shape) (image : List ℕ) where
       let less : q.number < r.number = omega (arith, le, opens.lawful.parity, older.lawful.parity, pair) in
       record { opens = open_on_own header r opens; other = inr (q, subst (λ h. IsOpenOver s image h q) (sym next) older, less) }
 
-  module _ {K : ℕ} where
-    -- what header page 1 says alone
-    pub first_alone : (first : Option (RootHeader K)) → header_gate image 0 ≢ 1 → Says s 1 (page_of 1 image) first → IfSome first (λ f. IsNewest s image (model_fields f))
-    first_alone None shut says = tt
-    first_alone (Some f) shut says = newest_alone 1 0 (model_fields f) refl (open_over 1 (model_fields f) says.0 says.1) shut
+  -- what header page 1 says alone
+  pub first_alone : (first : Option RootHeader) → header_gate image 0 ≢ 1 → Says s 1 (page_of 1 image) first → IfSome first (λ f. IsNewest s image (model_fields f))
+  first_alone None shut says = tt
+  first_alone (Some f) shut says = newest_alone 1 0 (model_fields f) refl (open_over 1 (model_fields f) says.0 says.1) shut
 
-    -- nothing is said of either
-    pub first_none : (first : Option (RootHeader K)) → header_gate image 0 ≢ 1 → Says s 1 (page_of 1 image) first → IfNone first ((header_gate image 0 ≢ 1) × (header_gate image 1 ≢ 1))
-    first_none None shut says = (shut, says)
-    first_none (Some f) shut says = tt
+  -- nothing is said of either
+  pub first_none : (first : Option RootHeader) → header_gate image 0 ≢ 1 → Says s 1 (page_of 1 image) first → IfNone first ((header_gate image 0 ≢ 1) × (header_gate image 1 ≢ 1))
+  first_none None shut says = (shut, says)
+  first_none (Some f) shut says = tt
 
 -- a root that a header page spells is lawful on its own header page
 pub lawful_on_own : (s : Shape) (header : ℕ) (page : List ℕ) (r : RootFields) → SpellsRoot s header page r → IsRootOn s (header_page r.number) r
 lawful_on_own s header page r spells = subst (λ h. IsRootOn s h r) (sym spells.lawful.parity) spells.lawful
 
 -- so is what header page 1 says alone
-pub first_lawful : {K : ℕ} (s : Shape) (page : List ℕ) (first : Option (RootHeader K)) → Says s 1 page first → IfSome first (λ f. IsRootOn s (header_page f.number) (model_fields f))
+pub first_lawful : (s : Shape) (page : List ℕ) (first : Option RootHeader) → Says s 1 page first → IfSome first (λ f. IsRootOn s (header_page f.number) (model_fields f))
 first_lawful s page None says = tt
 first_lawful s page (Some f) says = lawful_on_own s 1 page (model_fields f) says.1
 
@@ -59,7 +58,7 @@ pub first_misspelt : (s : Shape) (image : List ℕ) (page : ℕ) → page < 2 �
 first_misspelt s image page two misspelt before unlike = inr (inr (inl (record { two = two; misspelt = misspelt; before = before; unlike = unlike })))
 
 -- a header page of which something is said is not misspelt
-pub not_misspelt : {K : ℕ} (s : Shape) (image : List ℕ) (header : ℕ) (said : Option (RootHeader K)) → Says s header (page_of header image) said → IsMisspelt s image header → ⊥
+pub not_misspelt : (s : Shape) (image : List ℕ) (header : ℕ) (said : Option RootHeader) → Says s header (page_of header image) said → IsMisspelt s image header → ⊥
 not_misspelt s image header None says misspelt = says misspelt.gate
 not_misspelt s image header (Some f) says misspelt = misspelt.none (model_fields f) (record { gate = says.0; spelled = says.1.bytes; lawful = says.1.lawful })
 

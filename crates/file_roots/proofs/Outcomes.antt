@@ -26,6 +26,11 @@ pub if_err_there : {T E : Type 0} {P : E → Type 0} (r : Result T E) → is_ok 
 if_err_there (Ok x) there p = absurd (true≢false there)
 if_err_there (Err e) there p = (e, p)
 
+-- what is said of an answer holds where it always does
+pub on_ok : {T E P : Type 0} (r : Result T E) → P → OnOk r P
+on_ok (Ok t) p = p
+on_ok (Err e) p = tt
+
 -- what is said of a failure holds where it always does
 pub on_err : {T E P : Type 0} (r : Result T E) → P → OnErr r P
 on_err (Ok t) p = tt

@@ -1,5 +1,5 @@
--- An image has one newest root with one table area, and is then not damaged.
-use Rattle.std.proofs.Common.{◌≡◌, ◌≢◌, ◌<◌, inl, inr, ◌+◌, ◌*◌, ◌/◌, ◌%◌, ◌++◌, ℕ, List, [], ◌∷◌, length, take, drop, IsTrue, refl, sym, ap, ◌∙◌, subst, arith}
+-- An image has one shape, and one newest root with one table area, and is then not damaged.
+use Rattle.std.proofs.Common.{◌≡◌, ◌≢◌, ◌<◌, inl, inr, ◌+◌, ◌*◌, ◌/◌, ◌%◌, ◌++◌, ℕ, List, [], length, take, drop, IsTrue, refl, sym, ap, ◌∙◌, subst, arith}
 use Rattle.std.specs.Prelude.{Option, Some, None}
 use Rattle.std.proofs.lemmas.Bool.{cases_eq}
 use Rattle.std.proofs.lemmas.List.{same_lists, get_or_default}
@@ -12,11 +12,13 @@ use Rattle.grid_model.specs.Scales.{scale_of}
 use Rattle.grid_model.specs.Spellings.{RootFields}
 use Rattle.grid_model.specs.Lawful.{IsRootOn, Area}
 use Rattle.grid_model.specs.Images.{header_gate, IsOpenOver, IsNewest, HasArea}
+use Rattle.root_pages.proofs.ShapePlaces.{shape_there, one_shape}
 use Rattle.root_pages.proofs.RootPlaces.{number_there, fields_there, on_header}
 use Rattle.root_pages.proofs.Roots.{few_attributes, in_range, root_again}
 use Rattle.file_roots.specs.Damage.{SpellsUpTo, AreAlike, IsFirstMisspelt, HasBadAreaPage, IsRootDamage}
-use Rattle.file_roots.specs.Roots.{WholeRoot}
-use Rattle.file_roots.specs.Replacing.{IsNewestWhole, IsOneOf, IsAmong, NewestIsAmong}
+use Rattle.grid_model.specs.Roots.{WholeRoot, IsNewestWhole, ShowsOld, ShowsOldOrTried}
+use Rattle.file_roots.specs.Uniqueness.{HasOneShape, HasOneNewest, HasOneArea, HasOneWhole}
+use Rattle.file_roots.specs.Replacing.{IsOldOrTried, NewestIsAmong}
 use Rattle.file_roots.proofs.Pieces.{piece_last}
 use Rattle.root_pages.proofs.KindsOfPages.{one_scale_spelled, one_list_spelled}
 use Rattle.file_roots.proofs.Spelled.{few, scale_there, list_there}
@@ -130,14 +132,27 @@ module _ (s : Shape) (image : List ℕ) (lawful : IsTrue (is_shape s)) where
         let more = none_bad s image r a lawful newest.opens.lawful (area_pages s) (omega arith) (pages_of_area s image r a lawful newest.opens.lawful area) bad.index bad.bad.inside in
         bad.bad.no_more more.0 more.1
 
+-- an image has one newest root
+pub one_newest_root : HasOneNewest
+one_newest_root s image r q lawful x y = one_newest s image lawful r q x y
+
+-- a root has one table area
+pub one_table_area : HasOneArea
+one_table_area s image r a b lawful root x y = one_area s image lawful r root a b (pages_of_area s image r a lawful root x).spelled (pages_of_area s image r b lawful root y).spelled
+
 -- an image has one newest root with its whole table area
-pub one_newest_whole : (s : Shape) (image : List ℕ) (w v : WholeRoot) → IsTrue (is_shape s) → IsNewestWhole s w image → IsNewestWhole s v image → w ≡ v
+pub one_newest_whole : HasOneWhole
 one_newest_whole s image w v lawful x y =
     let same : w.fields ≡ v.fields = one_newest s image lawful w.fields v.fields x.newest y.newest in
-    let root = y.newest.opens.lawful in
     let other : HasArea s image v.fields w.area = subst (λ f. HasArea s image f w.area) same x.area in
-    let area : w.area ≡ v.area = one_area s image lawful v.fields root w.area v.area (pages_of_area s image v.fields w.area lawful root other).spelled (pages_of_area s image v.fields v.area lawful root y.area).spelled in
+    let area : w.area ≡ v.area = one_table_area s image v.fields w.area v.area lawful y.newest.opens.lawful other y.area in
     λ i. record { fields = same i; area = area i }
+
+-- an image has one shape
+pub one_file_shape : HasOneShape
+one_file_shape K J image s t x y =
+    let page = page_of 0 image in
+    one_shape page s t (shape_there page s (record { lawful = x.lawful; bytes = x.first })) (shape_there page t (record { lawful = y.lawful; bytes = y.first }))
 
 -- the newest root is one of those of which one is the newest
 module _ (s : Shape) (image : List ℕ) (lawful : IsTrue (is_shape s)) (r : RootFields) (newest : IsNewest s image r) where
@@ -147,13 +162,17 @@ module _ (s : Shape) (image : List ℕ) (lawful : IsTrue (is_shape s)) (r : Root
       let same : w.fields ≡ r = one_newest s image lawful w.fields r whole.newest newest in
       (subst (λ f. HasArea s image f w.area) same whole.area, λ i. record { fields = sym same i; area = w.area })
 
-  newest_among : (old : Option WholeRoot) (others : List WholeRoot) → IsOneOf s old others image → (a : Area) × HasArea s image r a × IsAmong old others (record { fields = r; area = a })
-  newest_among None [] none = absurd (one_open_at_least s image lawful r newest none.zeroth none.first)
-  newest_among (Some old) [] whole = let is = same_whole old whole in (old.area, is.0, is.1)
-  newest_among None (w ∷ ws) (inl whole) = let is = same_whole w whole in (w.area, is.0, inl is.1)
-  newest_among (Some old) (w ∷ ws) (inl whole) = let is = same_whole w whole in (w.area, is.0, inl is.1)
-  newest_among None (w ∷ ws) (inr more) = let is = newest_among None ws more in (is.0, is.1, inr is.2)
-  newest_among (Some old) (w ∷ ws) (inr more) = let is = newest_among (Some old) ws more in (is.0, is.1, inr is.2)
+  some_whole : (w v : WholeRoot) → v ≡ w → Some w ≡ Some v
+  some_whole w v is = λ i. Some (sym is i)
+
+  newest_is_old : (old : Option WholeRoot) → ShowsOld s old image → (a : Area) × HasArea s image r a × (old ≡ Some (record { fields = r; area = a }))
+  newest_is_old None none = absurd (one_open_at_least s image lawful r newest none.zeroth none.first)
+  newest_is_old (Some old) whole = let is = same_whole old whole in (old.area, is.0, some_whole old _ is.1)
+
+  newest_among : (old tried : Option WholeRoot) → ShowsOldOrTried s old tried image → (a : Area) × HasArea s image r a × IsOldOrTried old tried (record { fields = r; area = a })
+  newest_among old None shows = let is = newest_is_old old shows in (is.0, is.1, inl is.2)
+  newest_among old (Some w) (inl whole) = let is = same_whole w whole in (w.area, is.0, inr (some_whole w _ is.1))
+  newest_among old (Some w) (inr shows) = let is = newest_is_old old shows in (is.0, is.1, inl is.2)
 
 pub newest_is_among : NewestIsAmong
-newest_is_among s old others image r lawful one newest = newest_among s image lawful r newest old others one
+newest_is_among s old tried image r lawful shows newest = newest_among s image lawful r newest old tried shows

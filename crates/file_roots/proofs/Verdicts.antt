@@ -15,7 +15,7 @@ use Rattle.grid_model.specs.Scales.{scale_of}
 use Rattle.grid_model.specs.Spellings.{RootFields}
 use Rattle.grid_model.specs.Lawful.{IsRootOn, Area, pages_named, nowhere}
 use Rattle.grid_model.specs.Images.{IsNewest, HasArea}
-use Rattle.file_roots.specs.Replacing.{IsNewestWhole}
+use Rattle.grid_model.specs.Roots.{IsNewestWhole}
 use Rattle.root_pages.specs.Areas.{IsScalePage, IsListPage, IsTablePage}
 use Rattle.linear_scales.specs.Limited.{LimitedScale, limits_of}
 use Rattle.file_roots.specs.Damage.{SpellsUpTo}

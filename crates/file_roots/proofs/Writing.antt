@@ -8,15 +8,15 @@ use Rattle.grid_types.specs.Shapes.{is_shape}
 use Rattle.grid_types.proofs.Places.{within-limits}
 use Rattle.grid_model.specs.Scales.{scale_of}
 use Rattle.linear_scales.specs.Limited.{scales_of}
-use Rattle.file_roots.specs.declared.root.Root.{Root}
-use Rattle.file_roots.specs.Roots.{IsRoot}
+use Rattle.linear_scales.specs.declared.root.Root.{Root}
+use Rattle.linear_scales.specs.Roots.{IsRoot}
 
 -- how long the lists of a root are
 pub record HasLengths (K : ℕ) (root : Root K) : Type 0 where
   pub scales : length root.scales ≡ K
   pub boundaries : (a : ℕ) → length (scale_of (scales_of root.scales) a) ≤ 1000
-  pub parts : length root.parts ≤ 1000
-  pub numbers : length root.table ≤ 65536
+  pub parts : length root.parts.items ≤ 1000
+  pub numbers : length root.table.items ≤ 65536
 
 module _ {K : ℕ} (s : Shape) (root : Root K) (lawful : IsTrue (is_shape s)) (attributes : s.k ≡ K) (is : IsRoot s root) where
   at_most_1000 : (a : ℕ) → length (scale_of (scales_of root.scales) a) ≤ 1000

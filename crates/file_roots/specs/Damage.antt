@@ -10,7 +10,7 @@ use Rattle.grid_model.specs.Spellings.{RootFields}
 use Rattle.grid_model.specs.Lawful.{IsRootOn, Area, pages_named}
 use Rattle.grid_model.specs.Images.{header_gate, IsOpenOver, IsNewest, HasArea, area_spelling}
 use Rattle.file_roots.specs.Headers.{root_number_at}
-use Rattle.file_roots.specs.Places.{own_page}
+use Rattle.grid_types.specs.Ranges.{own_page}
 
 -- the first n pages of a root's table area say this of an area: as many of the root's boundaries, parts and numbers as stand on them; the boundaries of each scale ascend, and each data page is one and is named once
 pub record SpellsUpTo (s : Shape) (image : List ℕ) (r : RootFields) (n : ℕ) (a : Area) : Type 0 where

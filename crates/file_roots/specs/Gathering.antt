@@ -11,7 +11,7 @@ use Rattle.grid_model.specs.Spellings.{RootFields}
 use Rattle.linear_scales.specs.Limited.{scales_of, limits_of}
 use Rattle.file_roots.specs.declared.gathering.Gathered.{Gathered}
 use Rattle.file_roots.specs.Damage.{SpellsUpTo, HasAreaUpTo}
-use Rattle.file_roots.specs.Places.{own_page}
+use Rattle.grid_types.specs.Ranges.{own_page}
 
 -- these data pages are marked, and no other; each is named once
 pub record AreMarked (marks : List Bool) (named : List ℕ) : Type 0 where
@@ -28,7 +28,7 @@ longer_scale scales a more = scale_of scales a ++ more
 
 -- the area that was gathered
 abbrev pub area_in : {K : ℕ} → Gathered K → Area
-area_in g = record { scales = scales_of g.scales; parts = g.parts; table = g.table }
+area_in g = record { scales = scales_of g.scales; parts = g.parts.items; table = g.table.items }
 
 -- the data pages that an area names
 abbrev pub pages_in : Area → List ℕ

@@ -15,7 +15,7 @@ abbrev pub root_number_at : List ℕ → ℕ
 root_number_at page = number 8 (drop 72 page)
 
 -- a header page is closed where nothing is said, and open over the root that is said
-abbrev pub Says : {K : ℕ} → Shape → ℕ → List ℕ → Option (RootHeader K) → Type 0
+abbrev pub Says : Shape → ℕ → List ℕ → Option RootHeader → Type 0
 Says s header page None = gate_of page ≢ 1
 Says s header page (Some f) = (gate_of page ≡ 1) × SpellsRoot s header page (model_fields f)
 

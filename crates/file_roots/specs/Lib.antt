@@ -1,4 +1,3 @@
-pub mod Roots
 pub mod Places
 pub mod Replacing
 pub mod Writing
@@ -7,3 +6,4 @@ pub mod Gathering
 pub mod Reading
 pub mod Refusals
 pub mod Headers
+pub mod Uniqueness

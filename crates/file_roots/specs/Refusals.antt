@@ -1,4 +1,4 @@
--- Which refusals may come of reading and of writing roots.
+-- Which refusals may come of reading roots and of closing a header page.
 use Rattle.std.specs.Prelude.{◌≡◌, ◌⊎◌, ℕ}
 use Rattle.grid_types.specs.declared.refusal.Refusal.{Refusal}
 use Rattle.grid_types.specs.declared.refusal.Refusal.TheVariants.{NoMemory, ReadFault, WriteFault, Damaged}
@@ -16,5 +16,5 @@ abbrev pub MayRefuseReading : Refusal → Type 0
 MayRefuseReading e = (e ≡ NoMemory) ⊎ MayRefuseChoice e
 
 -- a read failed, or a write or a sync did
-abbrev pub MayRefuseWriting : Refusal → Type 0
-MayRefuseWriting e = (e ≡ ReadFault) ⊎ (e ≡ WriteFault)
+abbrev pub MayRefuseClosing : Refusal → Type 0
+MayRefuseClosing e = (e ≡ ReadFault) ⊎ (e ≡ WriteFault)

@@ -6,16 +6,17 @@ ghost use Rattle.grid_types.specs.Shapes.{area_pages, file_pages};
 ghost use Rattle.grid_model.specs.Scales.{scale_of};
 ghost use Rattle.grid_model.specs.Images.{area_spelling, half_of_scale};
 ghost use Rattle.linear_scales.specs.Limited.{scales_of};
-ghost use Rattle.disk_trait.specs.Calls.{Changes};
+ghost use Rattle.disk_trait.specs.Calls.{Changes, IsSynced};
 ghost use Rattle.disk_trait.specs.Causes.{HasCause};
-ghost use Rattle.file_roots.specs.Roots.{WholeRoot, area_of, whole_of, IsRoot};
-ghost use Rattle.file_roots.specs.Places.{own_page, AreaPageAlone, AreaAlone};
-ghost use Rattle.file_roots.specs.Replacing.{HasAreaOf};
-ghost use Rattle.file_roots.specs.Writing.{Awaits, AlwaysShows};
+ghost use Rattle.grid_model.specs.Roots.{WholeRoot, HasAreaOf};
+ghost use Rattle.linear_scales.specs.Roots.{area_of, whole_of, IsRoot};
+ghost use Rattle.grid_types.specs.Ranges.{own_page};
+ghost use Rattle.file_roots.specs.Places.{AreaPageAlone, AreaAlone};
+ghost use Rattle.file_roots.specs.Writing.{Awaits, StaysReady};
 
-use crate::Root;
 use disk_trait::{Disk, DiskFailed};
 use grid_types::{Geometry, NUMBERS_ON_PAGE, PAGE_BYTES, WORDS_ON_PAGE};
+use linear_scales::Root;
 use root_pages::{encode_list, encode_scale, encode_table};
 
 /// The boundaries of an attribute, none for one that the root does not have.
@@ -56,7 +57,7 @@ fn encode_area_page<const K: usize>(root: &Root<K>, i: u32, page: &mut [u8; PAGE
     requires scales { length root.now.scales ≡ K }
     requires boundaries { (a : ℕ)
         → length (scale_of (scales_of root.now.scales) a) ≤ MOST_BOUNDARIES }
-    requires parts { length root.now.parts ≤ WORDS_ON_PAGE }
+    requires parts { length root.now.parts.items ≤ WORDS_ON_PAGE }
     ensures { page.new ≡ area_spelling root.now.number (area_of root.now) i }
 {
     if i < 8 {
@@ -69,8 +70,7 @@ fn encode_area_page<const K: usize>(root: &Root<K>, i: u32, page: &mut [u8; PAGE
     }
 }
 
-/// Writes page `i` of the table area of the root. It is on the disk after the next sync. At each moment of it the old root,
-/// which stands on the other header page, is the newest.
+/// Writes page `i` of the table area of the root. It is on the disk after the next sync.
 pub fn write_area_page<const K: usize, D: Disk>(
     disk: &mut D,
     geometry: &Geometry,
@@ -89,9 +89,9 @@ pub fn write_area_page<const K: usize, D: Disk>(
     ensures awaits { (old : Option WholeRoot)
         → Awaits D.Disk geometry.now.shape root.now.number old disk.old
         → Awaits D.Disk geometry.now.shape root.now.number old disk.new }
-    ensures shows_old { (old : Option WholeRoot)
+    ensures ready { (old : Option WholeRoot)
         → Awaits D.Disk geometry.now.shape root.now.number old disk.old
-        → AlwaysShows D.Disk geometry.now.shape old [] disk.old disk.new }
+        → StaysReady D.Disk geometry.now.shape root.now.number old disk.old disk.new }
     ensures cause { HasCause (D.write_count disk.old) (D.write_count disk.new) result }
 {
     let mut page = [0; PAGE_BYTES];
@@ -100,8 +100,8 @@ pub fn write_area_page<const K: usize, D: Disk>(
     disk.write(at, &page)
 }
 
-/// Writes the whole table area of the root. It is on the disk after the next sync.
-pub fn write_area<const K: usize, D: Disk>(
+/// Writes each page of the table area of the root. They are on the disk after the next sync.
+fn write_area_pages<const K: usize, D: Disk>(
     disk: &mut D,
     geometry: &Geometry,
     root: &Root<K>,
@@ -119,4 +119,30 @@ pub fn write_area<const K: usize, D: Disk>(
         write_area_page(disk, geometry, root, i)?;
     }
     Ok(())
+}
+
+/// Writes the whole table area of the root, and syncs. Its header page was closed before, and is written next.
+pub fn write_area<const K: usize, D: Disk>(
+    disk: &mut D,
+    geometry: &Geometry,
+    root: &Root<K>,
+) -> Result<(), DiskFailed>
+    requires attributes { geometry.now.shape.k ≡ K }
+    requires root { IsRoot geometry.now.shape root.now }
+    requires size { file_pages geometry.now.shape * PAGE_BYTES ≤ D.extent disk.old }
+    ensures written { IsTrue (D.honest disk.old)
+        → OnOk result (HasAreaOf geometry.now.shape (whole_of root.now) (D.seen disk.new)) }
+    ensures durable { OnOk result (IsSynced D.Disk disk.new) }
+    ensures changes { Changes D.Disk
+        (AreaAlone geometry.now.shape root.now.number) disk.old disk.new }
+    ensures awaits { (old : Option WholeRoot)
+        → Awaits D.Disk geometry.now.shape root.now.number old disk.old
+        → Awaits D.Disk geometry.now.shape root.now.number old disk.new }
+    ensures ready { (old : Option WholeRoot)
+        → Awaits D.Disk geometry.now.shape root.now.number old disk.old
+        → StaysReady D.Disk geometry.now.shape root.now.number old disk.old disk.new }
+    ensures cause { HasCause (D.write_count disk.old) (D.write_count disk.new) result }
+{
+    write_area_pages(disk, geometry, root)?;
+    disk.sync()
 }

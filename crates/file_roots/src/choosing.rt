@@ -6,7 +6,7 @@ ghost use Rattle.grid_types.specs.Pages.{page_of};
 ghost use Rattle.grid_model.specs.Images.{header_gate, IsNewest};
 ghost use Rattle.root_pages.specs.Headers.{SpellsNoRoot};
 ghost use Rattle.root_pages.specs.Fields.{model_fields};
-ghost use Rattle.file_roots.specs.Roots.{AreRootFields};
+ghost use Rattle.grid_model.specs.Roots.{AreRootFields};
 ghost use Rattle.file_roots.specs.Damage.{IsRootDamage};
 ghost use Rattle.file_roots.specs.Headers.{AreAlikeOn, Says, SaysNothing};
 ghost use Rattle.file_roots.specs.Refusals.{TellsDamage};
@@ -22,13 +22,12 @@ fn are_alike(zeroth: &[u8; PAGE_BYTES], first: &[u8; PAGE_BYTES]) -> bool
 }
 
 /// The root over which a header page is open, none where it is closed.
-fn open_root<const K: usize>(
+fn open_root(
     page: &[u8; PAGE_BYTES],
     geometry: &Geometry,
     header: u8,
-) -> Result<Option<RootHeader<K>>, Refusal>
-    requires attributes { geometry.now.shape.k ≡ K }
-    requires two { header < 2 }
+) -> Result<Option<RootHeader>, Refusal>
+    requires { header < 2 }
     ensures said { IfOk result (Says geometry.now.shape header page.now) }
     ensures damaged { IfErr result (λ e.
         (e ≡ Damaged header) × SaysNothing geometry.now.shape header page.now) }
@@ -45,21 +44,18 @@ fn open_root<const K: usize>(
 }
 
 /// The one of the greater number.
-fn newer<const K: usize>(
-    zeroth: Option<RootHeader<K>>,
-    first: Option<RootHeader<K>>,
-) -> Option<RootHeader<K>>
+fn newer(zeroth: Option<RootHeader>, first: Option<RootHeader>) -> Option<RootHeader>
     ensures found { (s : Shape) (image : List ℕ)
-        → Says s 0 (page_of 0 image) zeroth.entry
-        → Says s 1 (page_of 1 image) first.entry
+        → Says s 0 (page_of 0 image) zeroth
+        → Says s 1 (page_of 1 image) first
         → IfSome result (λ f. IsNewest s image (model_fields f)) }
     ensures lawful { (s : Shape) (a b : List ℕ)
-        → Says s 0 a zeroth.entry
-        → Says s 1 b first.entry
+        → Says s 0 a zeroth
+        → Says s 1 b first
         → IfSome result (λ f. AreRootFields s (model_fields f)) }
     ensures none { (s : Shape) (image : List ℕ)
-        → Says s 0 (page_of 0 image) zeroth.entry
-        → Says s 1 (page_of 1 image) first.entry
+        → Says s 0 (page_of 0 image) zeroth
+        → Says s 1 (page_of 1 image) first
         → IfNone result ((header_gate image 0 ≢ 1) × (header_gate image 1 ≢ 1)) }
 {
     match zeroth {
@@ -77,12 +73,11 @@ fn newer<const K: usize>(
 }
 
 /// The fields of the newest root of a file with these header pages.
-pub fn choose<const K: usize>(
+pub fn choose(
     zeroth: &[u8; PAGE_BYTES],
     first: &[u8; PAGE_BYTES],
     geometry: &Geometry,
-) -> Result<RootHeader<K>, Refusal>
-    requires { geometry.now.shape.k ≡ K }
+) -> Result<RootHeader, Refusal>
     ensures found { (image : List ℕ)
         → page_of 0 image ≡ zeroth.now
         → page_of 1 image ≡ first.now

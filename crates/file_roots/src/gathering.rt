@@ -6,12 +6,11 @@ ghost use Rattle.grid_model.specs.Spellings.{RootFields};
 ghost use Rattle.grid_model.specs.Scales.{is_scale, scale_of};
 ghost use Rattle.linear_scales.specs.Limited.{LimitedScale, scales_of, limits_of};
 ghost use Rattle.root_pages.specs.Reading.{AreOn};
-ghost use Rattle.file_roots.specs.Roots.{AreRootFields};
+ghost use Rattle.grid_model.specs.Roots.{AreRootFields};
 ghost use Rattle.file_roots.specs.Gathering.{AreMarked, named_by, longer_scale, HasRoom, HasGathered};
 
-use crate::NOWHERE;
 use grid_types::{Geometry, PAGE_BYTES, PageList};
-use linear_scales::Scales;
+use linear_scales::{NOWHERE, Scales};
 use root_pages::{boundary_at, entry_at};
 use std::alloc::{AllocError, Global};
 
@@ -163,7 +162,7 @@ pub fn take_pages(
     requires { count ≤ WORDS_ON_PAGE }
     ensures taken { (xs : List ℕ)
         → AreOn 4 count page.now xs
-        → IfOk result (λ t. IsTrue t → list.new ≡ list.old ++ xs) }
+        → IfOk result (λ t. IsTrue t → list.new.items ≡ list.old.items ++ xs) }
     ensures inside { (xs : List ℕ)
         → AreOn 4 count page.now xs
         → IfOk result (λ t. IsTrue t

@@ -5,8 +5,8 @@ ghost use Rattle.grid_types.specs.Pages.{page_of};
 ghost use Rattle.grid_types.specs.Shapes.{area_pages};
 ghost use Rattle.grid_model.specs.Lawful.{Area};
 ghost use Rattle.root_pages.specs.Fields.{model_fields};
-ghost use Rattle.file_roots.specs.Roots.{AreRootFields};
-ghost use Rattle.file_roots.specs.Places.{own_page};
+ghost use Rattle.grid_model.specs.Roots.{AreRootFields};
+ghost use Rattle.grid_types.specs.Ranges.{own_page};
 ghost use Rattle.file_roots.specs.Damage.{HasAreaUpTo};
 ghost use Rattle.file_roots.specs.Gathering.{TakesPage, HasGathered, HasRoom};
 
@@ -17,16 +17,16 @@ use root_pages::{RootHeader, is_list_page, is_scale_page, is_table_page};
 use std::alloc::AllocError;
 
 /// How many boundaries stand on page `i` of the table area.
-fn boundaries_on<const K: usize>(fields: &RootHeader<K>, i: u32) -> usize
-    requires { length fields.now.boundaries ≡ K }
+fn boundaries_on(fields: &RootHeader, i: u32) -> usize
     ensures { result ≡ min NUMBERS_ON_PAGE
-        (slice_index fields.now.boundaries (i / 2) - NUMBERS_ON_PAGE * (i % 2)) }
+        (slice_index fields.now.boundaries.items (i / 2) - NUMBERS_ON_PAGE * (i % 2)) }
 {
     let a = (i / 2) as usize;
-    if a >= K {
+    let counts = fields.boundaries.as_slice();
+    if a >= counts.len() {
         return 0;
     }
-    let all = fields.boundaries[a] as usize;
+    let all = counts[a] as usize;
     if i % 2 == 0 {
         return all.min(NUMBERS_ON_PAGE);
     }
@@ -37,12 +37,11 @@ fn boundaries_on<const K: usize>(fields: &RootHeader<K>, i: u32) -> usize
 fn take_scale<const K: usize>(
     gathered: &mut Gathered<K>,
     geometry: &Geometry,
-    fields: &RootHeader<K>,
+    fields: &RootHeader,
     i: u32,
     page: &[u8; PAGE_BYTES],
 ) -> bool
     requires root { AreRootFields geometry.now.shape (model_fields fields.now) }
-    requires attributes { length fields.now.boundaries ≡ K }
     requires scale { i < 8 }
     requires room { HasRoom geometry.now.shape gathered.old }
     ensures taken { TakesPage geometry.now.shape (model_fields fields.now) i
@@ -64,7 +63,7 @@ fn take_scale<const K: usize>(
 fn take_list<const K: usize>(
     gathered: &mut Gathered<K>,
     geometry: &Geometry,
-    fields: &RootHeader<K>,
+    fields: &RootHeader,
     i: u32,
     page: &[u8; PAGE_BYTES],
 ) -> Result<bool, AllocError>
@@ -86,7 +85,7 @@ fn take_list<const K: usize>(
 fn take_table<const K: usize>(
     gathered: &mut Gathered<K>,
     geometry: &Geometry,
-    fields: &RootHeader<K>,
+    fields: &RootHeader,
     i: u32,
     page: &[u8; PAGE_BYTES],
 ) -> Result<bool, AllocError>
@@ -110,12 +109,11 @@ fn take_table<const K: usize>(
 fn take_entries<const K: usize>(
     gathered: &mut Gathered<K>,
     geometry: &Geometry,
-    fields: &RootHeader<K>,
+    fields: &RootHeader,
     i: u32,
     page: &[u8; PAGE_BYTES],
 ) -> Result<bool, AllocError>
     requires root { AreRootFields geometry.now.shape (model_fields fields.now) }
-    requires attributes { length fields.now.boundaries ≡ K }
     requires inside { i < area_pages geometry.now.shape }
     requires room { HasRoom geometry.now.shape gathered.old }
     ensures taken { IfOk result (TakesPage geometry.now.shape (model_fields fields.now) i
@@ -135,12 +133,11 @@ fn take_entries<const K: usize>(
 pub fn take_area_page<const K: usize>(
     gathered: &mut Gathered<K>,
     geometry: &Geometry,
-    fields: &RootHeader<K>,
+    fields: &RootHeader,
     i: u32,
     page: &[u8; PAGE_BYTES],
 ) -> Result<bool, AllocError>
     requires root { AreRootFields geometry.now.shape (model_fields fields.now) }
-    requires attributes { length fields.now.boundaries ≡ K }
     requires inside { i < area_pages geometry.now.shape }
     requires room { HasRoom geometry.now.shape gathered.old }
     ensures gathered { (image : List ℕ)

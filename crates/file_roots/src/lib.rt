@@ -5,7 +5,6 @@
 mod area_pages;
 mod choosing;
 mod closing;
-mod finishing;
 mod gathering;
 mod header;
 mod judging;
@@ -14,13 +13,12 @@ mod reading;
 mod replacing;
 mod root;
 
-pub use area_pages::write_area_page;
+pub use area_pages::{write_area, write_area_page};
 pub use closing::close_root;
-pub use finishing::finish_root;
-pub use laws::{area_law, damage_law, replacing_law};
+pub use header::write_header;
+pub use laws::{area_law, damage_law, replacing_law, uniqueness_law};
 pub use reading::read_newest;
-pub use replacing::replace_root;
-pub use root::{NOWHERE, Root};
+pub use replacing::write_root;
 
 #[cfg(test)]
 mod tests;

@@ -1,37 +1,37 @@
 //! The newest root of a file, from its header page and its table area.
-ghost use Rattle.std.specs.Prelude.{◌≡◌, ◌<◌, ◌≤◌, ◌+◌, ◌*◌, ℕ, length, replicate, IsTrue, IfOk, IsErrOf};
+ghost use Rattle.std.specs.Prelude.{◌≡◌, ◌<◌, ◌≤◌, ◌+◌, ◌*◌, ℕ, length, replicate, IsTrue, IfOk, IsErrOf, OnErr};
 ghost use Rattle.grid_types.specs.declared.sizes.TheConstants.{PAGE_BYTES};
 ghost use Rattle.grid_types.specs.declared.refusal.Refusal.TheVariants.{NoMemory, Damaged};
 ghost use Rattle.grid_types.specs.Shapes.{area_pages, file_pages};
 ghost use Rattle.grid_model.specs.Spellings.{RootFields};
 ghost use Rattle.grid_model.specs.Images.{IsNewest};
+ghost use Rattle.grid_model.specs.Lawful.{Area};
 ghost use Rattle.root_pages.specs.Fields.{model_fields};
 ghost use Rattle.linear_scales.specs.Limited.{limits_of};
 ghost use Rattle.disk_trait.specs.Calls.{OnlyReads, HasCauses};
-ghost use Rattle.file_roots.specs.Roots.{WholeRoot, whole_of, AreRootFields, IsRoot};
-ghost use Rattle.file_roots.specs.Replacing.{IsNewestWhole};
-ghost use Rattle.file_roots.specs.Damage.{IsRootDamage};
-ghost use Rattle.file_roots.specs.Gathering.{HasRoom};
-ghost use Rattle.file_roots.specs.Reading.{Gathers, TakesSteps};
+ghost use Rattle.grid_model.specs.Roots.{WholeRoot, AreRootFields, IsNewestWhole};
+ghost use Rattle.linear_scales.specs.Roots.{whole_of, IsRoot};
+ghost use Rattle.file_roots.specs.Damage.{HasAreaUpTo, IsRootDamage};
+ghost use Rattle.file_roots.specs.Gathering.{HasRoom, HasGathered};
+ghost use Rattle.file_roots.specs.Reading.{Gathers, IsGoodUpTo, TellsNewest, TakesSteps};
 ghost use Rattle.file_roots.specs.Refusals.{MayRefuseChoice, MayRefuseReading};
 
-use crate::Root;
 use crate::choosing::choose;
 use crate::gathering::Gathered;
 use crate::judging::take_area_page;
 use disk_trait::{Disk, Steps, read_page};
 use grid_types::{Geometry, PAGE_BYTES, Refusal};
+use linear_scales::Root;
 use root_pages::RootHeader;
 use std::alloc::{AllocError, Global};
 use std::sync::ledger::Ledger;
 
 /// Reads both header pages, and chooses the newest root.
-fn read_fields<const K: usize, D: Disk, L: Ledger>(
+fn read_fields<D: Disk, L: Ledger>(
     disk: &mut D,
     geometry: &Geometry,
     steps: &mut Steps<L>,
-) -> Result<RootHeader<K>, Refusal>
-    requires attributes { geometry.now.shape.k ≡ K }
+) -> Result<RootHeader, Refusal>
     requires size { file_pages geometry.now.shape * PAGE_BYTES ≤ D.extent disk.old }
     ensures found { IsTrue (D.honest disk.old)
         → IfOk result (λ f. IsNewest geometry.now.shape (D.seen disk.old) (model_fields f)) }
@@ -55,13 +55,12 @@ fn read_fields<const K: usize, D: Disk, L: Ledger>(
 fn read_area_page<const K: usize, D: Disk, L: Ledger>(
     disk: &mut D,
     geometry: &Geometry,
-    fields: &RootHeader<K>,
+    fields: &RootHeader,
     gathered: &mut Gathered<K>,
     i: u32,
     steps: &mut Steps<L>,
 ) -> Result<(), Refusal>
     requires root { AreRootFields geometry.now.shape (model_fields fields.now) }
-    requires attributes { length fields.now.boundaries ≡ K }
     requires inside { i < area_pages geometry.now.shape }
     requires room { HasRoom geometry.now.shape gathered.old }
     requires size { file_pages geometry.now.shape * PAGE_BYTES ≤ D.extent disk.old }
@@ -85,16 +84,21 @@ fn read_area_page<const K: usize, D: Disk, L: Ledger>(
 fn read_area<const K: usize, D: Disk, L: Ledger>(
     disk: &mut D,
     geometry: &Geometry,
-    fields: &RootHeader<K>,
+    fields: &RootHeader,
     gathered: &mut Gathered<K>,
     steps: &mut Steps<L>,
 ) -> Result<(), Refusal>
     requires root { AreRootFields geometry.now.shape (model_fields fields.now) }
-    requires attributes { length fields.now.boundaries ≡ K }
     requires room { HasRoom geometry.now.shape gathered.old }
     requires size { file_pages geometry.now.shape * PAGE_BYTES ≤ D.extent disk.old }
     ensures gathers { Gathers D.Disk geometry.now.shape (model_fields fields.now)
         0 (area_pages geometry.now.shape) disk.old gathered.old gathered.new result }
+    ensures good_before { IsTrue (D.honest disk.old)
+        → HasGathered geometry.now.shape (D.seen disk.old) (model_fields fields.now) 0 gathered.old
+        → (n : ℕ)
+        → steps.new ≡ steps.old + n + 1
+        → OnErr result ((a : Area) × HasAreaUpTo geometry.now.shape
+        (D.seen disk.old) (model_fields fields.now) n a) }
     ensures same { OnlyReads D.Disk disk.old disk.new }
     ensures causes { HasCauses D.Disk MayRefuseReading disk.old disk.new result }
     ensures ticks { TakesSteps (area_pages geometry.now.shape) steps.old steps.new result }
@@ -105,9 +109,8 @@ fn read_area<const K: usize, D: Disk, L: Ledger>(
     Ok(())
 }
 
-/// Reads the newest root: both header pages, and then its table area in order. A page that is not what it has to be is
-/// named, header pages before the table area.
-pub fn read_newest<const K: usize, D: Disk, L: Ledger>(
+/// Reads the newest root: both header pages, and then its table area in order.
+fn read_root<const K: usize, D: Disk, L: Ledger>(
     alloc: Global,
     disk: &mut D,
     geometry: &Geometry,
@@ -117,16 +120,6 @@ pub fn read_newest<const K: usize, D: Disk, L: Ledger>(
     requires size { file_pages geometry.now.shape * PAGE_BYTES ≤ D.extent disk.old }
     ensures found { IsTrue (D.honest disk.old)
         → IfOk result (λ root. IsNewestWhole geometry.now.shape (whole_of root) (D.seen disk.old)) }
-    ensures only { IsTrue (D.honest disk.old)
-        → (w : WholeRoot)
-        → IsNewestWhole geometry.now.shape w (D.seen disk.old)
-        → IfOk result (λ root. whole_of root ≡ w) }
-    ensures undamaged { IsTrue (D.honest disk.old)
-        → (w : WholeRoot)
-        → IsNewestWhole geometry.now.shape w (D.seen disk.old)
-        → (p : ℕ)
-        → IsErrOf result (Damaged p)
-        → ⊥ }
     ensures damaged { IsTrue (D.honest disk.old)
         → (p : ℕ)
         → IsErrOf result (Damaged p)
@@ -134,6 +127,11 @@ pub fn read_newest<const K: usize, D: Disk, L: Ledger>(
     ensures no_memory { IsTrue (D.honest disk.old)
         → IsErrOf result NoMemory
         → (r : RootFields) × IsNewest geometry.now.shape (D.seen disk.old) r }
+    ensures good_before { IsTrue (D.honest disk.old)
+        → (n : ℕ)
+        → steps.new ≡ steps.old + n + 1
+        → 2 ≤ n
+        → OnErr result (IsGoodUpTo geometry.now.shape (D.seen disk.old) n) }
     ensures lawful { IfOk result (λ root. IsRoot geometry.now.shape root) }
     ensures limits { IfOk result (λ root.
         limits_of root.scales ≡ replicate K geometry.now.shape.boundaries) }
@@ -141,7 +139,7 @@ pub fn read_newest<const K: usize, D: Disk, L: Ledger>(
     ensures causes { HasCauses D.Disk MayRefuseReading disk.old disk.new result }
     ensures ticks { TakesSteps (2 + area_pages geometry.now.shape) steps.old steps.new result }
 {
-    let fields = read_fields::<K, _, _>(disk, geometry, steps)?;
+    let fields = read_fields(disk, geometry, steps)?;
     let mut gathered = match Gathered::<K>::new(alloc, geometry) {
         Ok(gathered) => gathered,
         Err(AllocError) => return Err(Refusal::NoMemory),
@@ -156,4 +154,26 @@ pub fn read_newest<const K: usize, D: Disk, L: Ledger>(
         parts: gathered.parts,
         table: gathered.table,
     })
+}
+
+/// Reads the newest root: both header pages, and then its table area in order. A page that is not what it has to be is
+/// named, header pages before the table area.
+pub fn read_newest<const K: usize, D: Disk, L: Ledger>(
+    alloc: Global,
+    disk: &mut D,
+    geometry: &Geometry,
+    steps: &mut Steps<L>,
+) -> Result<Root<K>, Refusal>
+    requires attributes { geometry.now.shape.k ≡ K }
+    requires size { file_pages geometry.now.shape * PAGE_BYTES ≤ D.extent disk.old }
+    ensures tells { IsTrue (D.honest disk.old)
+        → TellsNewest geometry.now.shape (D.seen disk.old) steps.old steps.new result }
+    ensures lawful { IfOk result (λ root. IsRoot geometry.now.shape root) }
+    ensures limits { IfOk result (λ root.
+        limits_of root.scales ≡ replicate K geometry.now.shape.boundaries) }
+    ensures same { OnlyReads D.Disk disk.old disk.new }
+    ensures causes { HasCauses D.Disk MayRefuseReading disk.old disk.new result }
+    ensures ticks { TakesSteps (2 + area_pages geometry.now.shape) steps.old steps.new result }
+{
+    read_root(alloc, disk, geometry, steps)
 }

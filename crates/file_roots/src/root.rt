@@ -1,30 +1,13 @@
-//! What a root says.
+//! What a root says on its header page.
 ghost use Rattle.std.specs.Prelude.{◌≡◌, ◌<◌, ◌≤◌, ◌^◌, length};
+ghost use Rattle.grid_types.specs.declared.sizes.TheConstants.{MOST_ATTRIBUTES};
 ghost use Rattle.grid_model.specs.Lawful.{pages_named};
+ghost use Rattle.linear_scales.specs.Roots.{root_fields_of};
 ghost use Rattle.root_pages.specs.Fields.{model_fields};
-ghost use Rattle.file_roots.specs.Roots.{root_fields_of};
 
-use grid_types::PageList;
-use linear_scales::Scales;
+use arrayvec::ArrayVec;
+use linear_scales::{NOWHERE, Root};
 use root_pages::RootHeader;
-
-/// Stands in a bucket table where no bucket has the number.
-pub const NOWHERE: u32 = u32::MAX;
-
-/// A root of a file: its fields on a header page, and what stands in its table area.
-#[derive(Drop)]
-pub struct Root<const K: usize> {
-    pub number: u64,
-    pub session: u64,
-    /// The place of the last update that the root's pages have.
-    pub front: u64,
-    pub records: u64,
-    pub scales: Scales<K>,
-    /// The data page of each directory part.
-    pub parts: PageList,
-    /// The data page of each bucket number, or `NOWHERE`.
-    pub table: PageList,
-}
 
 /// How many bucket numbers a table has.
 pub fn count_named(table: &[u32]) -> usize
@@ -41,15 +24,16 @@ pub fn count_named(table: &[u32]) -> usize
 }
 
 /// The fields of a root as its header page has them.
-pub fn fields<const K: usize>(root: &Root<K>) -> RootHeader<K>
+pub fn fields<const K: usize>(root: &Root<K>) -> RootHeader
+    requires few { K ≤ MOST_ATTRIBUTES }
     requires count { length root.now.scales ≡ K }
-    requires parts { length root.now.parts < 2 ^ 32 }
-    requires numbers { length root.now.table < 2 ^ 32 }
+    requires parts { length root.now.parts.items < 2 ^ 32 }
+    requires numbers { length root.now.table.items < 2 ^ 32 }
     ensures { model_fields result ≡ root_fields_of root.now }
 {
-    let mut boundaries = [0; K];
+    let mut boundaries = ArrayVec::new();
     for a in 0..K {
-        boundaries[a] = root.scales.scale(a).boundaries().len() as u32;
+        boundaries.push(root.scales.scale(a).boundaries().len() as u32);
     }
     RootHeader {
         number: root.number,

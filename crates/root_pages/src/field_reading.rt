@@ -9,7 +9,8 @@ ghost use Rattle.root_pages.specs.Reading.{FieldsAt};
 
 use crate::lawful::is_lawful;
 use crate::{RootHeader, encode_fields};
-use grid_types::{Geometry, PAGE_BYTES};
+use arrayvec::ArrayVec;
+use grid_types::{Geometry, MOST_ATTRIBUTES, PAGE_BYTES};
 use page_fields::{get_u32, get_u64};
 
 /// Whether the gate of the header page is open. Any value but 1 is closed.
@@ -31,37 +32,40 @@ pub fn root_number(page: &[u8; PAGE_BYTES]) -> u64
     get_u64(page, 72)
 }
 
-fn counts_in<const K: usize>(page: &[u8; PAGE_BYTES]) -> [u32; K]
-    requires { K ≤ MOST_ATTRIBUTES }
-    ensures { (a : ℕ) → a < K → slice_index result a ≡ number 4 (drop (104 + 4 * a) page.now) }
+/// The numbers that stand where a header page has how many boundaries each scale has.
+fn counts_in(page: &[u8; PAGE_BYTES], attributes: usize) -> ArrayVec<u32, MOST_ATTRIBUTES>
+    requires { attributes ≤ MOST_ATTRIBUTES }
+    ensures count { length result.items ≡ attributes }
+    ensures each { (a : ℕ)
+        → a < attributes
+        → slice_index result.items a ≡ number 4 (drop (104 + 4 * a) page.now) }
 {
-    let mut counts = [0; K];
-    for a in 0..K {
-        counts[a] = get_u32(page, 104 + 4 * a);
+    let mut counts = ArrayVec::new();
+    for a in 0..attributes {
+        counts.push(get_u32(page, 104 + 4 * a));
     }
     counts
 }
 
 /// The numbers that stand where a header page has those of a root, whether lawful or not.
-fn fields_in<const K: usize>(page: &[u8; PAGE_BYTES]) -> RootHeader<K>
-    requires { K ≤ MOST_ATTRIBUTES }
+fn fields_in(page: &[u8; PAGE_BYTES], attributes: usize) -> RootHeader
+    requires { attributes ≤ MOST_ATTRIBUTES }
     ensures at { FieldsAt 72 page.now (model_fields result) }
-    ensures count { length result.boundaries ≡ K }
+    ensures count { length result.boundaries.items ≡ attributes }
 {
     RootHeader {
         number: get_u64(page, 72),
         session: get_u64(page, 80),
         front: get_u64(page, 88),
         records: get_u64(page, 96),
-        boundaries: counts_in(page),
+        boundaries: counts_in(page, attributes),
         parts: get_u32(page, 120),
         buckets: get_u32(page, 124),
     }
 }
 
 /// Whether the header page has the one spelling of these fields.
-fn is_spelled<const K: usize>(page: &[u8; PAGE_BYTES], fields: &RootHeader<K>) -> bool
-    requires { K ≤ MOST_ATTRIBUTES }
+fn is_spelled(page: &[u8; PAGE_BYTES], fields: &RootHeader) -> bool
     ensures { IsTrue result ↔ (take 56 (drop 72 page.now) ≡ root_bytes (model_fields fields.now)) }
 {
     let mut again = [0; 56];
@@ -72,13 +76,8 @@ fn is_spelled<const K: usize>(page: &[u8; PAGE_BYTES], fields: &RootHeader<K>) -
 /// The lawful fields of a root on this header page, 0 or 1, of a file of this shape. There are some at most once, and
 /// the gate is not looked at.
 #[tactic(auto, using(crate::proofs::Roots::few_attributes))]
-pub fn decode_fields<const K: usize>(
-    page: &[u8; PAGE_BYTES],
-    geometry: &Geometry,
-    header: u8,
-) -> Option<RootHeader<K>>
-    requires attributes { geometry.now.shape.k ≡ K }
-    requires two { header < 2 }
+pub fn decode_fields(page: &[u8; PAGE_BYTES], geometry: &Geometry, header: u8) -> Option<RootHeader>
+    requires { header < 2 }
     ensures found { IfSome result (λ f.
         SpellsRoot geometry.now.shape header page.now (model_fields f)) }
     ensures only { IfSome result (λ f. (r : RootFields)
@@ -86,7 +85,7 @@ pub fn decode_fields<const K: usize>(
         → r ≡ model_fields f) }
     ensures none { IfNone result (SpellsNoRoot geometry.now.shape header page.now) }
 {
-    let fields = fields_in(page);
+    let fields = fields_in(page, geometry.shape.k as usize);
     if !is_lawful(&fields, geometry, header) {
         return None;
     }

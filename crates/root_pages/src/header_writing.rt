@@ -1,5 +1,5 @@
 //! The bytes of a header page.
-ghost use Rattle.std.specs.Prelude.{◌≡◌, ◌≤◌, ◌+◌, ◌-◌, ◌*◌, ◌++◌, replicate, slice_index, take};
+ghost use Rattle.std.specs.Prelude.{◌≡◌, ◌≤◌, ◌+◌, ◌-◌, ◌*◌, ◌++◌, length, replicate, slice_index, take};
 ghost use Rattle.grid_types.specs.declared.sizes.TheConstants.{PAGE_BYTES, MOST_ATTRIBUTES};
 ghost use Rattle.page_fields.specs.Fields.{bytes_of};
 ghost use Rattle.page_fields.specs.Padded.{padded, numbers};
@@ -54,26 +54,25 @@ fn clear(bytes: &mut [u8; 56], from: usize, to: usize)
 }
 
 /// Writes how many boundaries each scale has, and zeros for the scales that there are not.
-fn put_counts<const K: usize>(bytes: &mut [u8; 56], counts: &[u32; K])
-    requires { K ≤ MOST_ATTRIBUTES }
+fn put_counts(bytes: &mut [u8; 56], counts: &[u32])
+    requires { length counts.now ≤ MOST_ATTRIBUTES }
     ensures { take 48 bytes.new ≡ take 32 bytes.old ++ padded 16 (numbers 4 counts.now) }
 {
-    for a in 0..K {
+    for a in 0..counts.len() {
         put_u32(bytes, 32 + 4 * a, counts[a]);
     }
-    clear(bytes, 32 + 4 * K, 48);
+    clear(bytes, 32 + 4 * counts.len(), 48);
 }
 
 /// Makes `bytes` the fields of a root as a header page has them from byte 72 on.
-pub fn encode_fields<const K: usize>(fields: &RootHeader<K>, bytes: &mut [u8; 56])
-    requires { K ≤ MOST_ATTRIBUTES }
+pub fn encode_fields(fields: &RootHeader, bytes: &mut [u8; 56])
     ensures { bytes.new ≡ root_bytes (model_fields fields.now) }
 {
     put_u64(bytes, 0, fields.number);
     put_u64(bytes, 8, fields.session);
     put_u64(bytes, 16, fields.front);
     put_u64(bytes, 24, fields.records);
-    put_counts(bytes, &fields.boundaries);
+    put_counts(bytes, fields.boundaries.as_slice());
     put_u32(bytes, 48, fields.parts);
     put_u32(bytes, 52, fields.buckets);
 }

@@ -1,4 +1,5 @@
 use super::*;
+use arrayvec::ArrayVec;
 use grid_types::{Geometry, PAGE_BYTES, Shape};
 use std::test::*;
 
@@ -11,28 +12,27 @@ const SHAPE: Shape = Shape {
     cells: 1_000_000,
 };
 
-const FIELDS: RootHeader<2> = RootHeader {
-    number: 258,
-    session: 7,
-    front: 65536,
-    records: 8,
-    boundaries: [3, 500],
-    parts: 3,
-    buckets: 5,
-};
+/// The fields of a root with that number and front.
+fn fields(number: u64, front: u64) -> RootHeader {
+    let mut boundaries = ArrayVec::new();
+    boundaries.push(3);
+    boundaries.push(500);
+    RootHeader {
+        number,
+        session: 7,
+        front,
+        records: 8,
+        boundaries,
+        parts: 3,
+        buckets: 5,
+    }
+}
 
 /// The root fields of a page of a file of this shape, where all is lawful.
-fn lawful_fields<const K: usize>(
-    page: &[u8; PAGE_BYTES],
-    shape: Shape,
-    header: u8,
-) -> Option<RootHeader<K>> {
+fn lawful_fields(page: &[u8; PAGE_BYTES], shape: Shape, header: u8) -> Option<RootHeader> {
     let Some(geometry) = Geometry::new(shape) else {
         return None;
     };
-    if shape.k as usize != K {
-        return None;
-    }
     if header > 1 {
         return None;
     }
@@ -83,11 +83,11 @@ fn root_page() -> [u8; PAGE_BYTES] {
 fn root_fields_are_laid_out(rt: HostRuntime) -> Result<(), Fail> {
     let mut page = root_page();
     let mut bytes = [9; 56];
-    encode_fields(&FIELDS, &mut bytes);
+    encode_fields(&fields(258, 65536), &mut bytes);
     assert!(rt; bytes[..] == page[72..128]);
     assert_eq!(rt; root_number(&page), 258);
-    assert!(rt; lawful_fields(&page, SHAPE, 0) == Some(FIELDS));
-    assert!(rt; lawful_fields::<2>(&page, SHAPE, 1) == None);
+    assert!(rt; lawful_fields(&page, SHAPE, 0) == Some(fields(258, 65536)));
+    assert!(rt; lawful_fields(&page, SHAPE, 1) == None);
     page[64] = 1;
     assert!(rt; is_open(&page));
     page[64] = 255;
@@ -127,12 +127,10 @@ fn unlawful_fields_are_refused(rt: HostRuntime) -> Result<(), Fail> {
     for (i, byte) in UNLAWFUL {
         let mut page = root_page();
         page[i as usize] = byte;
-        assert!(rt; lawful_fields::<2>(&page, SHAPE, 0) == None);
+        assert!(rt; lawful_fields(&page, SHAPE, 0) == None);
     }
     let page = last_page();
-    let mut last = FIELDS;
-    last.number = 1 << 63;
-    last.front = (1 << 63) - 1;
+    let last = fields(1 << 63, (1 << 63) - 1);
     assert!(rt; lawful_fields(&page, SHAPE, 0) == Some(last));
     Ok(())
 }
@@ -142,9 +140,9 @@ fn a_directory_has_no_more_cells_than_the_shape(rt: HostRuntime) -> Result<(), F
     let page = root_page();
     let mut shape = SHAPE;
     shape.cells = 4 * 501;
-    assert!(rt; lawful_fields(&page, shape, 0) == Some(FIELDS));
+    assert!(rt; lawful_fields(&page, shape, 0) == Some(fields(258, 65536)));
     shape.cells = 4 * 501 - 1;
-    assert!(rt; lawful_fields::<2>(&page, shape, 0) == None);
+    assert!(rt; lawful_fields(&page, shape, 0) == None);
     Ok(())
 }
 

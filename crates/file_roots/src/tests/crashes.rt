@@ -23,9 +23,9 @@ fn is_old_or_new<L: Ledger>(
     };
     let mut disk = Fused::new(disk, calls);
     let root = next(root, geometry);
-    let mut done = u64::from(replace_root(&mut disk, geometry, &root, steps).is_ok());
+    let mut done = u64::from(replace(&mut disk, geometry, &root, steps));
     let root = next(root, geometry);
-    done += u64::from(replace_root(&mut disk, geometry, &root, steps).is_ok());
+    done += u64::from(replace(&mut disk, geometry, &root, steps));
     let mut image = disk.image(keep)?;
     let told = told(alloc, &mut image, geometry, steps).number;
     let due = u64::from(calls >= 16) + u64::from(calls >= 33);
@@ -66,10 +66,10 @@ fn is_old_or_tried<L: Ledger>(
     };
     disk.fail(failing)?;
     let root = next(root, geometry);
-    let failed = replace_root(&mut disk, geometry, &root, steps).is_err();
+    let failed = !replace(&mut disk, geometry, &root, steps);
     let mut disk = Fused::new(disk, calls);
     let root = renewed(root, geometry);
-    let answered = replace_root(&mut disk, geometry, &root, steps).is_ok();
+    let answered = replace(&mut disk, geometry, &root, steps);
     let mut image = disk.image(keep)?;
     let told = told(alloc, &mut image, geometry, steps).session;
     Ok(failed && told >= 4 && told <= 6 && (told == 6 || !answered))

@@ -2,12 +2,14 @@ ghost use Rattle.std.specs.Prelude.{◌≡◌, ◌<◌, ◌≤◌, ◌+◌, ◌*
 ghost use Rattle.grid_types.specs.declared.sizes.TheConstants.{PAGE_BYTES, WORDS_ON_PAGE};
 ghost use Rattle.grid_types.specs.Shapes.{file_pages};
 ghost use Rattle.disk_memory.specs.Memories.{extent_of};
-ghost use Rattle.file_roots.specs.Roots.{IsRoot};
+ghost use Rattle.linear_scales.specs.Roots.{IsRoot};
 
 use super::*;
+use arrayvec::ArrayVec;
 use disk_memory::Memory;
 use disk_trait::{Disk, Steps};
 use grid_types::{Geometry, NUMBERS_ON_PAGE, PAGE_BYTES, Refusal, Shape, WORDS_ON_PAGE};
+use linear_scales::{NOWHERE, Root};
 use root_pages::{RootHeader, encode_fields, encode_list, encode_scale, encode_table};
 use std::alloc::{AllocError, Global};
 use std::marker::Brand;
@@ -114,12 +116,15 @@ fn put_header(disk: &mut Memory, buckets: u32) -> bool
     requires size { SMALL * PAGE_BYTES ≤ extent_of disk.old }
     ensures size { extent_of disk.new ≡ extent_of disk.old }
 {
-    let fields = RootHeader::<ATTRIBUTES> {
+    let mut boundaries = ArrayVec::new();
+    boundaries.push(501);
+    boundaries.push(0);
+    let fields = RootHeader {
         number: 0,
         session: 3,
         front: 7,
         records: 2,
-        boundaries: [501, 0],
+        boundaries,
         parts: 1,
         buckets,
     };
@@ -226,6 +231,24 @@ fn early<L: Ledger>(
     Some(root)
 }
 
+/// Closes the header page of a root, and writes the root.
+fn replace<D: Disk, L: Ledger>(
+    disk: &mut D,
+    geometry: &Geometry,
+    root: &Root<ATTRIBUTES>,
+    steps: &mut Steps<L>,
+) -> bool
+    requires attributes { geometry.now.shape.k ≡ ATTRIBUTES }
+    requires root { IsRoot geometry.now.shape root.now }
+    requires size { file_pages geometry.now.shape * PAGE_BYTES ≤ D.extent disk.old }
+    ensures size { D.extent disk.new ≡ D.extent disk.old }
+{
+    if close_root(disk, geometry, root.number, steps).is_err() {
+        return false;
+    }
+    write_root(disk, geometry, root).is_ok()
+}
+
 /// Writes a root behind the newest one.
 fn advance<L: Ledger>(
     alloc: Global,
@@ -241,7 +264,7 @@ fn advance<L: Ledger>(
         return false;
     };
     let root = next(root, geometry);
-    replace_root(disk, geometry, &root, steps).is_ok()
+    replace(disk, geometry, &root, steps)
 }
 
 /// What is told of the newest root.

@@ -8,7 +8,7 @@ use Rattle.disk_trait.proofs.Calls.{changes_write, changes_wider}
 use Rattle.disk_trait.proofs.Pages.{agrees_same, page_written}
 use Rattle.file_roots.proofs.Writing.{lengths}
 use Rattle.file_roots.proofs.Areas.{page_in_area}
-use Rattle.file_roots.proofs.Sections.{awaits_area, shows_old_area}
+use Rattle.file_roots.proofs.Sections.{awaits_area, ready_at_area}
 use Rattle.file_roots.proofs.area_pages.write_area_page.Goals as goal
 
 pub encode_area_page-requires : goal.encode_area_page-requires
@@ -37,10 +37,10 @@ pub returns-clause-awaits : goal.returns-clause-awaits
 returns-clause-awaits g c = λ old w.
     let s = c.args.geometry.now.shape in
     let number = c.args.root.now.number in
-    awaits_area s number c.args.geometry.now.lawful old (changes_wider (λ x y a. page_in_area s number c.args.i x y c.requires.inside a) (returns-clause-changes g c)) w
+    awaits_area s c.args.geometry.now.lawful number old (changes_wider (λ x y a. page_in_area s number c.args.i x y c.requires.inside a) (returns-clause-changes g c)) w
 
-pub returns-clause-shows_old : goal.returns-clause-shows_old
-returns-clause-shows_old g c = λ old w.
+pub returns-clause-ready : goal.returns-clause-ready
+returns-clause-ready g c = λ old w.
     let s = c.args.geometry.now.shape in
     let number = c.args.root.now.number in
-    shows_old_area s number c.args.geometry.now.lawful old (changes_wider (λ x y a. page_in_area s number c.args.i x y c.requires.inside a) (returns-clause-changes g c)) w
+    ready_at_area s c.args.geometry.now.lawful number old (changes_wider (λ x y a. page_in_area s number c.args.i x y c.requires.inside a) (returns-clause-changes g c)) w

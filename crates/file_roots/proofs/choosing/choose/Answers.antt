@@ -18,7 +18,7 @@ unlike image zeroth first p0 p1 none alike =
     })
 
 pub returns-then-are_alike-clause-damaged : goal.returns-then-are_alike-clause-damaged
-returns-then-are_alike-clause-damaged g c = λ image p0 p1 p e.
+returns-then-are_alike-clause-damaged c = λ image p0 p1 p e.
     let alike = c.are_alike.ensures.0 c.if-are_alike.true in
     let is : 1 ≡ p = named_page 1 p (Damaged 1) refl (refusal_is (Damaged 1) (Damaged p) e) in
     inr (inl (record {
@@ -29,7 +29,7 @@ returns-then-are_alike-clause-damaged g c = λ image p0 p1 p e.
     }))
 
 pub returns-in_err-zeroth-clause-damaged : goal.returns-in_err-zeroth-clause-damaged
-returns-in_err-zeroth-clause-damaged g c = λ image p0 p1 p e.
+returns-in_err-zeroth-clause-damaged c = λ image p0 p1 p e.
     let d = c.in_err-zeroth.ensures.damaged in
     let is : 0 ≡ p = named_page 0 p c.in_err-zeroth.field-0.0 d.0 (same_refusal c.from_residual.result c.in_err-zeroth.field-0.0 (Damaged p) c.from_residual.ensures.1 e) in
     let misspelt = is_misspelt c.args.geometry.now.shape image c.args.zeroth.now 0 p0 d.1 in
@@ -37,7 +37,7 @@ returns-in_err-zeroth-clause-damaged g c = λ image p0 p1 p e.
     (first_misspelt c.args.geometry.now.shape image 0 (omega arith) misspelt (λ header lt. absurd (omega (arith, lt))) (unlike image c.args.zeroth.now c.args.first.now p0 p1 (λ alike. true≢false (sym (c.are_alike.ensures.1 alike) ∙ c.if-are_alike.false))))
 
 pub returns-in_err-first-clause-damaged : goal.returns-in_err-first-clause-damaged
-returns-in_err-first-clause-damaged g c = λ image p0 p1 p e.
+returns-in_err-first-clause-damaged c = λ image p0 p1 p e.
     let d = c.in_err-first.ensures.damaged in
     let is : 1 ≡ p = named_page 1 p c.in_err-first.field-0.0 d.0 (same_refusal c.from_residual-in_err-first.result c.in_err-first.field-0.0 (Damaged p) c.from_residual-in_err-first.ensures.1 e) in
     let misspelt = is_misspelt c.args.geometry.now.shape image c.args.first.now 1 p1 d.1 in
@@ -46,15 +46,15 @@ returns-in_err-first-clause-damaged g c = λ image p0 p1 p e.
     (first_misspelt c.args.geometry.now.shape image 1 (omega arith) misspelt (λ header lt bad. zeroth (subst (IsMisspelt c.args.geometry.now.shape image) (omega (arith, lt)) bad)) (unlike image c.args.zeroth.now c.args.first.now p0 p1 (λ alike. true≢false (sym (c.are_alike.ensures.1 alike) ∙ c.if-are_alike.false))))
 
 pub returns-in-Some-clause-found : goal.returns-in-Some-clause-found
-returns-in-Some-clause-found g c = λ image p0 p1.
+returns-in-Some-clause-found c = λ image p0 p1.
     let s = c.args.geometry.now.shape in
     c.in-Some.ensures.found s image (subst (λ q. Says s 0 q c.in_ok-zeroth.zeroth) (sym p0) c.in_ok-zeroth.ensures.said) (subst (λ q. Says s 1 q c.in_ok-first.first) (sym p1) c.in_ok-first.ensures.said)
 
 pub returns-in-Some-clause-lawful : goal.returns-in-Some-clause-lawful
-returns-in-Some-clause-lawful g c = c.in-Some.ensures.lawful c.args.geometry.now.shape c.args.zeroth.now c.args.first.now c.in_ok-zeroth.ensures.said c.in_ok-first.ensures.said
+returns-in-Some-clause-lawful c = c.in-Some.ensures.lawful c.args.geometry.now.shape c.args.zeroth.now c.args.first.now c.in_ok-zeroth.ensures.said c.in_ok-first.ensures.said
 
 pub returns-in-None-clause-damaged : goal.returns-in-None-clause-damaged
-returns-in-None-clause-damaged g c = λ image p0 p1 p e.
+returns-in-None-clause-damaged c = λ image p0 p1 p e.
     let s = c.args.geometry.now.shape in
     let is : 0 ≡ p = named_page 0 p (Damaged 0) refl (refusal_is (Damaged 0) (Damaged p) e) in
     let shut = c.in-None.ensures.none s image (subst (λ q. Says s 0 q c.in_ok-zeroth.zeroth) (sym p0) c.in_ok-zeroth.ensures.said) (subst (λ q. Says s 1 q c.in_ok-first.first) (sym p1) c.in_ok-first.ensures.said) in

@@ -32,7 +32,7 @@ loop-i-preserved c =
       taken = λ xs on.
           let lt : i < length xs = omega (arith, on.count_is, c.loop-i-test.true) in
           let is : v ≡ get_or xs i 0 = c.entry_at-entry.ensures.number ∙ sym (on.each i lt) in
-          c.in_ok-push.ensures.added ∙ ap (λ ys. ys ++ v ∷ []) (c.loop-i.invariant.taken xs on) ∙ entries_more c.args.list.now xs i v lt is;
+          c.in_ok-push.ensures.added ∙ ap (λ ys. ys ++ v ∷ []) (c.loop-i.invariant.taken xs on) ∙ entries_more c.args.list.now.items xs i v lt is;
       inside = λ xs on.
           let lt : i < length xs = omega (arith, on.count_is, c.loop-i-test.true) in
           let is : v ≡ get_or xs i 0 = c.entry_at-entry.ensures.number ∙ sym (on.each i lt) in

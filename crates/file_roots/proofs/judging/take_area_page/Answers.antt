@@ -14,7 +14,7 @@ overflow_add-i g c = omega (arith, c.requires.inside, area-small c.args.geometry
 pub returns-clause-gathered : goal.returns-clause-gathered
 returns-clause-gathered g c = λ image page had yes.
     let now = c.in_ok-take_entries.ensures.taken.gathered image page (record { spelled = had.area.spelled; marked = had.marked }) c.if-not-branch.false in
-    let count : length (pages_named c.take_entries.new.gathered.table) ≡ c.args.fields.now.buckets = sym (c.count_named.ensures.value ∙ ap (λ ys. length (pages_named ys)) c.list.ensures.value) ∙ eqb-true c.count_named.result c.args.fields.now.buckets yes in
+    let count : length (pages_named c.take_entries.new.gathered.table.items) ≡ c.args.fields.now.buckets = sym (c.count_named.ensures.value ∙ ap (λ ys. length (pages_named ys)) c.list.ensures.value) ∙ eqb-true c.count_named.result c.args.fields.now.buckets yes in
     record { area = record { spelled = now.spelled; buckets = λ le. count }; marked = now.marked }
 
 pub returns-clause-refused : goal.returns-clause-refused

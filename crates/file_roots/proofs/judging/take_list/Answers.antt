@@ -39,13 +39,13 @@ returns-clause-taken g c =
     let on = list_entries r.number c.args.i r.parts c.args.page.now xs h.spelled h.count_is in
     if_ok_is c.take_pages.result (λ t is. record {
       gathered = λ image page had yes.
-          let names = list_names old.parts old.table xs (omega (arith, had.spelled.numbers, c.requires.list)) in
+          let names = list_names old.parts.items old.table.items xs (omega (arith, had.spelled.numbers, c.requires.list)) in
           let now = taken_more s c.take_pages.new.marks.items _ (pages_in (area_in old)) xs _ room names had.spelled.named (IfOk-at_ok _ is (takes.inside xs on) yes) (IfOk-at_ok _ is (takes.marked xs (pages_in (area_in old)) on had.marked) yes) in
           let grown = grow_list s image r lawful c.requires.root c.args.i (area_in old) had.spelled xs c.requires.list (page ∙ h.spelled.bytes) h.count_is now.named now.marked.distinct in
           let added = sym (IfOk-at_ok _ is (takes.taken xs on) yes) in
           record {
-            spelled = subst (λ ys. SpellsUpTo s image r (c.args.i + 1) (record { scales = scales_of old.scales; parts = ys; table = old.table })) added grown;
-            marked = subst (λ ys. AreMarked c.take_pages.new.marks.items (ys ++ pages_named old.table)) added now.marked;
+            spelled = subst (λ ys. SpellsUpTo s image r (c.args.i + 1) (record { scales = scales_of old.scales; parts = ys; table = old.table.items })) added grown;
+            marked = subst (λ ys. AreMarked c.take_pages.new.marks.items (ys ++ pages_named old.table.items)) added now.marked;
           };
       refused = λ image page had no a further.
           let here : SpellsList r.number c.args.i _ xs = subst (λ p. SpellsList r.number c.args.i p xs) (sym page) h.spelled in

@@ -52,7 +52,7 @@ returns-clause-taken g c =
           let scale = c.take_boundaries.ensures.scale (had.spelled.scales (c.args.i / 2)) h.entries on yes in
           let grown = grow_scale s image r lawful c.requires.root c.args.i (area_in old) had.spelled h.entries c.requires.scale inside (page ∙ h.spelled.bytes) (h.count_is ∙ c.boundaries_on-count.ensures) scale in
           record {
-            spelled = subst (λ ss. SpellsUpTo s image r (c.args.i + 1) (record { scales = ss; parts = old.parts; table = old.table })) (sym (c.take_boundaries.ensures.taken h.entries on yes)) grown;
+            spelled = subst (λ ss. SpellsUpTo s image r (c.args.i + 1) (record { scales = ss; parts = old.parts.items; table = old.table.items })) (sym (c.take_boundaries.ensures.taken h.entries on yes)) grown;
             marked = had.marked;
           };
       refused = λ image page had no a further.

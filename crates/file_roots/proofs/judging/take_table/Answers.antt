@@ -38,20 +38,20 @@ returns-clause-taken g c =
     let xs = h.entries in
     let on = table_entries r.number c.args.i c.min-count.result c.args.page.now xs h.spelled h.count_is in
     let count : length xs ≡ min 1000 (s.pages - 1000 * (c.args.i - 9)) = omega (arith, h.count_is, c.min-count.ensures) in
-    let names = table_names old.parts old.table xs in
+    let names = table_names old.parts.items old.table.items xs in
     if_ok_is c.take_pages.result (λ t is. record {
       gathered = λ image page had yes.
           let now = taken_more s c.take_pages.new.marks.items _ (pages_in (area_in old)) (pages_named xs) _ room names had.spelled.named (IfOk-at_ok _ is (takes.inside xs on) yes) (IfOk-at_ok _ is (takes.marked xs (pages_in (area_in old)) on had.marked) yes) in
           let grown = grow_table s image r lawful c.requires.root c.args.i (area_in old) had.spelled xs c.requires.table (page ∙ h.spelled.bytes) count now.named now.marked.distinct in
           let added = sym (IfOk-at_ok _ is (takes.taken xs on) yes) in
           record {
-            spelled = subst (λ ys. SpellsUpTo s image r (c.args.i + 1) (record { scales = scales_of old.scales; parts = old.parts; table = ys })) added grown;
-            marked = subst (λ ys. AreMarked c.take_pages.new.marks.items (old.parts ++ pages_named ys)) added now.marked;
+            spelled = subst (λ ys. SpellsUpTo s image r (c.args.i + 1) (record { scales = scales_of old.scales; parts = old.parts.items; table = ys })) added grown;
+            marked = subst (λ ys. AreMarked c.take_pages.new.marks.items (old.parts.items ++ pages_named ys)) added now.marked;
           };
       refused = λ image page had no a further.
           let here : SpellsTable r.number c.args.i _ xs = subst (λ p. SpellsTable r.number c.args.i p xs) (sym page) h.spelled in
           let agree = table_agrees s image r lawful c.requires.root c.args.i (area_in old) a had.spelled further xs c.requires.table c.requires.inside here in
-          let agrees : pages_in a ≡ pages_in (area_in old) ++ pages_named xs = ap (λ ys. ys ++ pages_named a.table) agree.0 ∙ ap (λ ys. old.parts ++ pages_named ys) agree.1 ∙ names in
+          let agrees : pages_in a ≡ pages_in (area_in old) ++ pages_named xs = ap (λ ys. ys ++ pages_named a.table) agree.0 ∙ ap (λ ys. old.parts.items ++ pages_named ys) agree.1 ∙ names in
           let rest = rest_named s _ (pages_in (area_in old)) (pages_named xs) _ room agrees further.named further.distinct in
           IfOk-at_ok _ is (takes.refused xs (pages_in (area_in old)) on had.marked) no rest.0 rest.1;
     })

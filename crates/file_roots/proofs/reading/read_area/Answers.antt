@@ -2,9 +2,9 @@ use Rattle.std.proofs.Common.{◌≡◌, ◌∙◌, ℕ, sym, subst, arith}
 use Rattle.grid_types.specs.declared.refusal.Refusal.TheVariants.{Damaged}
 use Rattle.grid_types.specs.Shapes.{area_pages}
 use Rattle.root_pages.specs.Fields.{model_fields}
-use Rattle.file_roots.specs.Damage.{HasBadAreaPage}
-use Rattle.file_roots.specs.Gathering.{HasGathered, MayBeGathered}
-use Rattle.file_roots.proofs.Outcomes.{on_ok_none, same_refusal, refused_so, no_refusal}
+use Rattle.file_roots.specs.Damage.{HasAreaUpTo, HasBadAreaPage}
+use Rattle.file_roots.specs.Gathering.{HasGathered, MayBeGathered, area_in}
+use Rattle.file_roots.proofs.Outcomes.{on_err, on_ok_none, same_refusal, refused_so, no_refusal}
 use Rattle.file_roots.proofs.reading.read_area.Goals as goal
 
 pub returns-in_err-read_area_page-clause-gathers : goal.returns-in_err-read_area_page-clause-gathers
@@ -35,3 +35,9 @@ returns-clause-gathers g c =
       damaged = λ h had p e. absurd (no_refusal tt (Damaged p) e);
       room = was.room;
     }
+
+pub returns-in_err-read_area_page-clause-good_before : goal.returns-in_err-read_area_page-clause-good_before
+returns-in_err-read_area_page-clause-good_before g c = λ h had n is.
+    let was = c.loop-i.invariant in
+    let count : c.loop-i.i ≡ n = omega (arith, is, was.ticks, c.in_err-read_area_page.ensures.ticks) in
+    on_err c.from_residual.result (area_in c.loop-i.gathered, subst (λ (k : ℕ). HasAreaUpTo c.args.geometry.now.shape (g.D.Disk.seen c.args.disk.now) (model_fields c.args.fields.now) k (area_in c.loop-i.gathered)) count (was.gathered h had).area)

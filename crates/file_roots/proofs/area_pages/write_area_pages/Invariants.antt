@@ -2,9 +2,10 @@ use Rattle.std.proofs.Common.{◌≡◌, ◌<◌, ℕ, IsTrue}
 use Rattle.grid_types.specs.Pages.{page_of}
 use Rattle.grid_model.specs.Images.{area_spelling}
 use Rattle.disk_trait.specs.Calls.{Changes}
-use Rattle.file_roots.specs.Roots.{area_of}
-use Rattle.file_roots.specs.Places.{own_page, AreaAlone}
-use Rattle.file_roots.proofs.area_pages.write_area.Given as goal
+use Rattle.linear_scales.specs.Roots.{area_of}
+use Rattle.grid_types.specs.Ranges.{own_page}
+use Rattle.file_roots.specs.Places.{AreaAlone}
+use Rattle.file_roots.proofs.area_pages.write_area_pages.Given as goal
 
 abbrev pub invariant-loop-i : goal.invariant-loop-i
 invariant-loop-i g l = record {
