@@ -1,7 +1,7 @@
 -- From a place on batches join in one way.
-use Rattle.std.proofs.Common.{◌≡◌, ◌+◌, ℕ, List, [], ◌∷◌, length, Some, None, refl, sym, subst, ◌∙◌}
+use Rattle.std.proofs.Common.{◌≡◌, ◌+◌, ℕ, List, [], ◌∷◌, length, refl, sym, subst, ◌∙◌}
 use Rattle.grid_model.specs.Spellings.{LoggedBatch}
-use Rattle.grid_model.specs.Images.{Join, joining}
+use Rattle.grid_model.specs.Images.{Join}
 use Rattle.grid_model.proofs.Boxes.{one-value, some-not-none}
 
 -- from a place on batches join up to one place, and these are the same ones

@@ -1,15 +1,13 @@
 -- The data pages that a table area names are named pages of the file, and stay where those do.
-use Rattle.std.proofs.Common.{◌≡◌, ◌<◌, ◌≤◌, ◌+◌, ◌==◌, ◌||◌, ◌++◌, ℕ, Bool, true, false, not, List, [], ◌∷◌, map, filter, length, get_or, slice_index, All, IsTrue, Contains, refl, sym, ap, subst, ◌∙◌, arith, true≢false}
+use Rattle.std.proofs.Common.{◌≡◌, ◌<◌, ◌==◌, ◌||◌, ◌++◌, ℕ, Bool, true, false, not, List, [], ◌∷◌, length, get_or, slice_index, Contains, refl, sym, ap, subst, ◌∙◌, arith, true≢false}
 use Rattle.std.specs.Option.{is_some}
-use Rattle.std.proofs.lemmas.Bool.{or_left, or_right}
+use Rattle.std.proofs.lemmas.Bool.{or_right}
 use Rattle.std.proofs.lemmas.List.{get_or_default}
 use Rattle.std.proofs.lemmas.List.Elements.{All-contains}
 use Rattle.grid_types.specs.declared.shape.Shape.{Shape}
-use Rattle.grid_types.specs.FilePages.{DataPage, page_number}
-use Rattle.grid_types.specs.Pages.{page_of}
-use Rattle.grid_types.specs.Shapes.{data_page}
+use Rattle.grid_types.specs.FilePages.{DataPage}
 use Rattle.grid_model.specs.Lists.{is_among, below}
-use Rattle.grid_model.specs.Layouts.{BucketBox, Layout, box}
+use Rattle.grid_model.specs.Layouts.{Layout}
 use Rattle.grid_model.specs.Spellings.{RootFields, BucketOf}
 use Rattle.grid_model.specs.Tables.{Table}
 use Rattle.grid_model.specs.Lawful.{Area, IsAreaOf, pages_named, nowhere}

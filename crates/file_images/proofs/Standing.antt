@@ -1,18 +1,16 @@
 -- An image stands for one place, one table and one layout at most.
-use Rattle.std.proofs.Common.{◌≡◌, ◌≤◌, ◌++◌, ℕ, List, fold, flat_map, IsTrue, refl, sym, ap, subst, ◌∙◌}
+use Rattle.std.proofs.Common.{◌≡◌, ◌≤◌, ℕ, List, fold, flat_map, IsTrue, sym, ap, subst, ◌∙◌}
 use Rattle.grid_types.specs.declared.shape.Shape.{Shape}
-use Rattle.grid_types.specs.declared.sizes.TheConstants.{MOST_ATTRIBUTES, MOST_RECORDS}
-use Rattle.grid_types.specs.Pages.{page_of}
-use Rattle.grid_types.specs.Shapes.{is_shape, header_page}
+use Rattle.grid_types.specs.declared.sizes.TheConstants.{MOST_ATTRIBUTES}
+use Rattle.grid_types.specs.Shapes.{is_shape}
 use Rattle.grid_types.proofs.Places.{within-limits}
 use Rattle.grid_model.specs.Tables.{Table}
 use Rattle.grid_model.specs.Layouts.{Layout, IsSound}
-use Rattle.grid_model.specs.Lawful.{Area, IsRootOn}
+use Rattle.grid_model.specs.Lawful.{Area}
 use Rattle.grid_model.specs.Spellings.{RootFields, LoggedBatch, BucketOf}
-use Rattle.grid_model.specs.Images.{HasShape, IsNewest, HasArea, HasGates, HasGatesOf, HasBatches, HasBuckets, Gates, Join, of_session, open_slots, AreRecordsOf, Found, IsFound, MakesTable, Reads, PagesSpell, RootSpells, IsShaped, logged_effect, updates_taken, layout_after}
+use Rattle.grid_model.specs.Images.{HasShape, IsNewest, HasArea, HasGates, HasBatches, HasBuckets, Gates, Join, of_session, open_slots, AreRecordsOf, Found, IsFound, Reads, PagesSpell, IsShaped, logged_effect, layout_after}
 use Rattle.journal_slots.proofs.OneScan.{the_gates, one_list}
-use Rattle.file_roots.proofs.Unique.{one_newest, one_area}
-use Rattle.root_pages.proofs.ShapePlaces.{one_shape, shape_there}
+use Rattle.file_roots.proofs.Unique.{one_newest_root, one_table_area, one_file_shape}
 use Rattle.file_images.specs.Laws.{StandsOnce}
 use Rattle.file_images.proofs.Joining.{one_join}
 use Rattle.file_images.proofs.Buckets.{one_list_of_buckets}
@@ -28,11 +26,6 @@ pub record AreSame {K : ℕ} (f g : Found K) (n m : ℕ) : Type 0 where
 
 few_attributes : (K : ℕ) (image : List ℕ) (s : Shape) → HasShape K image s → K ≤ MOST_ATTRIBUTES
 few_attributes K image s x = subst (λ k. k ≤ MOST_ATTRIBUTES) x.attributes (within-limits s x.lawful).few_attributes
-
--- an image has one shape
-same_shape : (K : ℕ) (image : List ℕ) (s t : Shape) → HasShape K image s → HasShape K image t → s ≡ t
-same_shape K image s t x y =
-    one_shape (page_of 0 image) s t (shape_there (page_of 0 image) s (record { lawful = x.lawful; bytes = x.first })) (shape_there (page_of 0 image) t (record { lawful = y.lawful; bytes = y.first }))
 
 module _ {K : ℕ} (s : Shape) (image : List ℕ) (lawful : IsTrue (is_shape s)) (few : K ≤ MOST_ATTRIBUTES) where
   same_gates : (g h : Gates) → HasGates s image g → HasGates s image h → g ≡ h
@@ -57,10 +50,10 @@ module _ {K : ℕ} (image : List ℕ) where
   -- one finding is the other, where both are of one shape and one root
   same_found : (f g : Found K) (n m : ℕ) → IsFound image f n → IsFound image g m → AreSame f g n m
   same_found f g n m x y =
-      let shape = same_shape K image f.shape g.shape x.shape y.shape in
+      let shape = one_file_shape K K image f.shape g.shape x.shape y.shape in
       let few = few_attributes K image f.shape x.shape in
-      let root = one_newest f.shape image x.shape.lawful f.root g.root x.root (subst (λ s. IsNewest s image g.root) (sym shape) y.root) in
-      let area = one_area f.shape image x.shape.lawful f.root x.root.opens.lawful f.area g.area x.area (subst (λ (p : Shape × RootFields). HasArea p.0 image p.1 g.area) (λ i. (sym shape i, sym root i)) y.area) in
+      let root = one_newest_root f.shape image f.root g.root x.shape.lawful x.root (subst (λ s. IsNewest s image g.root) (sym shape) y.root) in
+      let area = one_table_area f.shape image f.root f.area g.area x.shape.lawful x.root.opens.lawful x.area (subst (λ (p : Shape × RootFields). HasArea p.0 image p.1 g.area) (λ i. (sym shape i, sym root i)) y.area) in
       let gates = same_gates f.shape image x.shape.lawful few f.gates g.gates x.gates (subst (λ s. HasGates s image g.gates) (sym shape) y.gates) in
       let there = subst (λ (p : Shape × Gates). HasBatches p.0 image (open_slots p.1) g.batches) (λ i. (sym shape i, sym gates i)) y.batches in
       let taken = same_taken f.shape image x.shape.lawful few f.root f.gates n m f.batches g.batches f.taken g.taken x.batches there x.taken (subst (λ (r : RootFields). Join (of_session r.session g.batches) r.front g.taken m) (sym root) y.taken) in

@@ -1,5 +1,5 @@
 -- What an image stands for stays where only free data pages change.
-use Rattle.std.proofs.Common.{◌≡◌, ◌<◌, ℕ, List, All, sym}
+use Rattle.std.proofs.Common.{ℕ, List, All, arith}
 use Rattle.grid_types.specs.declared.shape.Shape.{Shape}
 use Rattle.grid_types.specs.FilePages.{HeaderPage, AreaPage, GatePage, SlotPage}
 use Rattle.grid_model.specs.Tables.{Table}
@@ -70,6 +70,7 @@ module _ {K : ℕ} (c d : List ℕ) where
   reads-stay n t r differs = record { found = r.found; makes = table-stays r.found n t differs r.makes }
 
   stands-stay : (n : ℕ) (t : Table) (s : Stands K c n t) → DiffersInFreePages s.reads.found.shape s.reads.found.area c d → Stands K d n t
+  unfolding reads-stay
   stands-stay n t s differs = record {
     reads = reads-stay n t s.reads differs;
     written = written-stay s.reads.found n differs s.reads.makes.is_found s.written;
@@ -79,6 +80,7 @@ module _ {K : ℕ} (c d : List ℕ) where
   }
 
   shaped-stays : (L : Layout K) (h : IsShaped c L) → DiffersInFreePages h.reads.found.shape h.reads.found.area c d → IsShaped d L
+  unfolding reads-stay
   shaped-stays L h differs = record {
     place = h.place;
     table = h.table;

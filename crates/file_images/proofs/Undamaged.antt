@@ -1,6 +1,6 @@
 -- An image that reads as a table is undamaged.
-use Rattle.std.proofs.Common.{◌≡◌, ◌<◌, ◌≤◌, ◌+◌, ◌*◌, ◌==◌, ◌++◌, ◌⊎◌, inl, inr, ℕ, List, [], ◌∷◌, map, filter, length, take, get_or, slice_get, slice_index, Some, IsTrue, Contains, codes, refl, sym, ap, subst, ◌∙◌, arith}
-use Rattle.std.proofs.lemmas.List.{take-take, take_at}
+use Rattle.std.proofs.Common.{◌≡◌, ◌<◌, ◌≤◌, ◌+◌, ◌*◌, ◌==◌, inl, inr, ℕ, List, [], filter, length, take, get_or, slice_index, Some, IsTrue, Contains, codes, refl, sym, ap, subst, ◌∙◌, arith}
+use Rattle.std.proofs.lemmas.List.{take-take}
 use Rattle.std.proofs.lemmas.List.Elements.{Contains-append_left, Contains-append_right}
 use Rattle.std.proofs.lemmas.Option.{slice_get-get_or}
 use Rattle.grid_types.specs.declared.shape.Shape.{Shape}
@@ -12,13 +12,11 @@ use Rattle.grid_types.specs.Shapes as places
 use Rattle.grid_types.proofs.Places.{one-of-two, table-page-lies, gate-page-lies, slot-page-lies, data-page-lies}
 use Rattle.page_fields.specs.Padded.{padded}
 use Rattle.grid_model.specs.Lists.{below}
-use Rattle.grid_model.specs.Tables.{Table}
 use Rattle.grid_model.specs.Spellings.{LoggedBatch, shape_bytes}
-use Rattle.grid_model.specs.Images.{HasShape, HasGates, HasGatesOf, HasBatches, Gates, open_slots, open_slots_of, Found, IsFound, Reads}
+use Rattle.grid_model.specs.Images.{HasGatesOf, HasBatches, open_slots, open_slots_of, Found, IsFound}
 use Rattle.grid_model.proofs.Members.{contains-filter, contains-range, contains-map}
 use Rattle.journal_slots.proofs.OneScan.{the_gates}
-use Rattle.journal_slots.specs.Scans.{IsFirstBadPage, IsBadSlot, SpellsSome}
-use Rattle.file_roots.specs.Damage.{IsRootDamage}
+use Rattle.journal_slots.specs.Scans.{IsFirstBadPage, SpellsSome}
 use Rattle.file_roots.proofs.Unique.{undamaged}
 use Rattle.file_images.specs.Damages.{ReadsUndamaged}
 
@@ -36,10 +34,10 @@ unfolding shape_bytes padded
 kind-first s = refl
 
 -- an open slot of a half is among the open slots
-open-there : (gates : List ℕ) (half slot : ℕ) → slot < length gates → slice_index gates slot ≡ 1 → Contains (open_slots_of gates half) (half, slot)
-open-there gates half slot lt open =
+opened-there : (gates : List ℕ) (half slot : ℕ) → slot < length gates → slice_index gates slot ≡ 1 → Contains (open_slots_of gates half) (half, slot)
+opened-there gates half slot lt opened =
     contains-map (λ i. (half, i)) (filter (λ i. slice_index gates i == 1) (below (length gates))) slot
-    (contains-filter (λ i. slice_index gates i == 1) (below (length gates)) slot (contains-range 0 (length gates) slot (omega arith) (omega (arith, lt))) (ap (λ x. x == 1) open))
+    (contains-filter (λ i. slice_index gates i == 1) (below (length gates)) slot (contains-range 0 (length gates) slot (omega arith) (omega (arith, lt))) (ap (λ x. x == 1) opened))
 
 module _ {K : ℕ} (s : Shape) (image : List ℕ) where
   -- among slots that have batches each spells one
@@ -67,7 +65,7 @@ module _ {K : ℕ} (image : List ℕ) (f : Found K) (n : ℕ) (is : IsFound imag
       let g = gates-of half two in
       let same : bad.gates ≡ g.0 = the_gates f.shape image half bad.gates bad.spelled ∙ sym (the_gates f.shape image half g.0 g.1) in
       let slot = bad.first.slot in
-      let there : Contains (open_slots_of bad.gates half) (half, slot) = open-there bad.gates half slot (omega (arith, bad.first.inside, bad.spelled.count)) bad.first.opened in
+      let there : Contains (open_slots_of bad.gates half) (half, slot) = opened-there bad.gates half slot (omega (arith, bad.first.inside, bad.spelled.count)) bad.first.opened in
       let some = g.2 (half, slot) (subst (λ gs. Contains (open_slots_of gs half) (half, slot)) same there) in
       bad.first.none (subst (λ p. SpellsSome K (page_of p image)) (sym bad.first.page_is) some)
 
