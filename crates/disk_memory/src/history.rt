@@ -22,8 +22,8 @@ pub enum Event {
 
 /// The bytes that a disk began with, and what has happened to them.
 ///
-/// Where some of them are not on the disk there is room for one event more, so that a sync needs no memory. Room is kept
-/// for failed writes too, each with a sync behind it.
+/// Where some of them are not on the disk there is room for one event more, so that a sync needs no memory. Room is also
+/// kept for failed writes, each with a sync behind it.
 #[derive(Drop)]
 pub struct DiskHistory {
     alloc: Global,

@@ -72,7 +72,8 @@ impl Memory {
         })
     }
 
-    /// From now on that call fails, counted from 1 over reads, writes and syncs: 1 is the next of them.
+    /// From now on that call fails, counted from 1 over reads, writes and syncs: 1 is the next of them. Where it is a write
+    /// there is room for its record, which is wanted here and not then.
     pub fn fail(&mut self, call: u64) -> Result<(), AllocError>
         ensures same { TellsSame self.new self.old }
         ensures dirty { dirty_of self.new ≡ dirty_of self.old }
