@@ -43,6 +43,7 @@ pub fn write_page<D: Disk>(
     ensures changes { Changes D.Disk (Agrees (page * PAGE_BYTES) PAGE_BYTES) disk.old disk.new }
     ensures cause { HasCause (D.write_count disk.old) (D.write_count disk.new) result }
 {
+    // A `u64` counts the bytes of a disk, so it counts those before the page.
     let _size = disk.size();
     disk.write(page * PAGE_BYTES as u64, bytes)
 }

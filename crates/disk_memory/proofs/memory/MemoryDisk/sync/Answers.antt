@@ -1,5 +1,5 @@
-use Rattle.std.proofs.Common.{◌≡◌, ◌⊎◌, ◌∙◌, sym, arith}
-use Rattle.disk_memory.specs.Past.{Synced, with_change}
+use Rattle.std.proofs.Common.{◌∙◌, sym, arith}
+use Rattle.disk_memory.specs.Past.{Synced}
 use Rattle.disk_memory.proofs.Changes.{either_past, either_room, synced_same, synced_only, elapses_either}
 use Rattle.disk_memory.proofs.CallsAhead.{room_after}
 use Rattle.disk_memory.proofs.memory.MemoryDisk.sync.Goals as goal

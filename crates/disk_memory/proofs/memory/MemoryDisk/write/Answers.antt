@@ -1,4 +1,4 @@
-use Rattle.std.proofs.Common.{◌≡◌, ◌⊎◌, ◌∙◌, inl, inr, length, ap, sym, arith}
+use Rattle.std.proofs.Common.{◌≡◌, ◌∙◌, inl, length, ap, sym, arith}
 use Rattle.std.proofs.lemmas.List.{with_items_is}
 use Rattle.disk_memory.specs.Past.{Failed, with_change, contents_now}
 use Rattle.disk_memory.proofs.Changes.{failed_same, failed_dirty, failed_crash, written_over, written_dirty, written_agrees, written_crash, elapses_push}
