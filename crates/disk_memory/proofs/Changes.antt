@@ -1,16 +1,15 @@
 -- What one change more does to what a disk has held.
 use Rattle.std.proofs.Common.{◌≡◌, ◌≤◌, ◌+◌, ◌⊎◌, inl, inr, ⊎_elim, ℕ, List, [], ◌∷◌, ◌++◌, length, map, refl, sym, ap, subst, ◌∙◌, arith}
-use Rattle.std.specs.Prelude.{Result, Ok, Err, OnOk, OnErr}
 use Rattle.std.proofs.lemmas.List.{take_all, take-append-le, length_push}
 use Rattle.disk_trait.specs.Disk.{Agrees, Holds, Only}
 use Rattle.disk_trait.specs.Moments.{After, Always, AgreesOutside}
-use Rattle.disk_trait.proofs.Pages.{agrees_same}
+use Rattle.disk_trait.proofs.Pages.{agrees_same, holds_agrees}
 use Rattle.disk_memory.specs.declared.history.Event.{Event}
 use Rattle.disk_memory.specs.Events.{change_of}
 use Rattle.disk_memory.specs.declared.memory.Memory.{Memory}
 use Rattle.disk_memory.specs.Memories.{TimeGoesOn}
-use Rattle.disk_memory.specs.Past.{Past, Contents, Change, Written, Failed, Synced, turned, run, contents_now, contents_after, Leaves, HadBeen, with_change}
-use Rattle.disk_memory.proofs.Ranges.{holds_agrees, torn, outside_nothing, outside_any}
+use Rattle.disk_memory.specs.Past.{Past, Recorded, with_recorded, Contents, Change, Written, Failed, Synced, turned, run, contents_now, contents_after, Leaves, HadBeen, with_change}
+use Rattle.disk_memory.proofs.Ranges.{torn, outside_nothing, outside_any}
 
 run_push : (h : Contents) (changes : List Change) (e : Change) → run h (changes ++ e ∷ []) ≡ turned (run h changes) e
 run_push h [] e = refl
@@ -46,28 +45,30 @@ module _ (p : Past) (e : Change) where
       ]
 
 -- time goes on by a change
-pub elapses_push : (m n : Memory) (e : Change) → n.history ≡ with_change m.history e → TimeGoesOn m n
+pub elapses_push : (m n : Memory) (e : Change) → n.history.past ≡ with_change m.history.past e → TimeGoesOn m n
 elapses_push m n e is = record {
-  later = omega (arith, ap (λ (p : Past). length p.changes) is, length_push m.history.changes e);
-  nothing_else = λ t c le. subst (λ q. HadBeen q t c → HadBeen m.history t c ⊎ Leaves (contents_now q) c) (sym is) (λ h. nothing_else m.history e t c h);
-  keeps = λ t c le h. subst (λ q. HadBeen q t c) (sym is) (kept m.history e t c h);
+  later = omega (arith, ap (λ (p : Past). length p.changes) is, length_push m.history.past.changes e);
+  nothing_else = λ t c le. subst (λ q. HadBeen q t c → HadBeen m.history.past t c ⊎ Leaves (contents_now q) c) (sym is) (λ h. nothing_else m.history.past e t c h);
+  keeps = λ t c le h. subst (λ q. HadBeen q t c) (sym is) (kept m.history.past e t c h);
 }
 
 -- time goes on by nothing
-pub elapses_same : (m n : Memory) → n.history ≡ m.history → TimeGoesOn m n
+pub elapses_same : (m n : Memory) → n.history.past ≡ m.history.past → TimeGoesOn m n
 elapses_same m n is = record {
   later = omega (arith, ap (λ (p : Past). length p.changes) is);
   nothing_else = λ t c le h. inl (subst (λ q. HadBeen q t c) is h);
   keeps = λ t c le h. subst (λ q. HadBeen q t c) (sym is) h;
 }
 
--- the one fact or the other, by what a call returned
-pub either_way : {T E : Type 0} (A B : Type 0) (r : Result T E) → OnOk r A → OnErr r B → B ⊎ A
-either_way A B (Ok x) a b = inr a
-either_way A B (Err x) a b = inl b
+-- where one change more is recorded, or none, the past has it, and as much room is kept
+pub either_past : (r s : Recorded) (e : Change) → (s ≡ r) ⊎ (s ≡ with_recorded r e) → (s.past ≡ r.past) ⊎ (s.past ≡ with_change r.past e)
+either_past r s e is = ⊎_elim (λ none. inl (ap (λ x. x.past) none)) (λ one. inr (ap (λ x. x.past) one)) is
+
+pub either_room : (r s : Recorded) (e : Change) → (s ≡ r) ⊎ (s ≡ with_recorded r e) → s.room ≡ r.room
+either_room r s e is = ⊎_elim (λ none. ap (λ x. x.room) none) (λ one. ap (λ x. x.room) one) is
 
 -- time goes on by a change or by nothing
-pub elapses_either : (m n : Memory) (e : Change) → (n.history ≡ m.history) ⊎ (n.history ≡ with_change m.history e) → TimeGoesOn m n
+pub elapses_either : (m n : Memory) (e : Change) → (n.history.past ≡ m.history.past) ⊎ (n.history.past ≡ with_change m.history.past e) → TimeGoesOn m n
 elapses_either m n e is = ⊎_elim (elapses_same m n) (elapses_push m n e) is
 
 module _ (p q : Past) (at : ℕ) (bytes : List ℕ) (is : q ≡ with_change p (Written at bytes)) where
@@ -91,18 +92,15 @@ module _ (p q : Past) (at : ℕ) (bytes : List ℕ) (is : q ≡ with_change p (W
 pub same_bytes : (p q : Past) (e : Change) → ((h : Contents) → (turned h e).bytes ≡ h.bytes) → (q ≡ p) ⊎ (q ≡ with_change p e) → (contents_now q).bytes ≡ (contents_now p).bytes
 same_bytes p q e leaves is = ⊎_elim (λ none. ap (λ r. (contents_now r).bytes) none) (λ one. ap (λ h. h.bytes) (contents_push p q e one) ∙ leaves (contents_now p)) is
 
-module _ (p q : Past) (at n : ℕ) (is : (q ≡ p) ⊎ (q ≡ with_change p (Failed at n))) where
+module _ (p q : Past) (at n : ℕ) (is : q ≡ with_change p (Failed at n)) where
   pub failed_same : (contents_now q).bytes ≡ (contents_now p).bytes
-  failed_same = same_bytes p q (Failed at n) (λ h. refl) is
+  failed_same = ap (λ h. h.bytes) (contents_push p q (Failed at n) is)
 
-  pub failed_dirty : ((contents_now q).dirty ≡ (contents_now p).dirty) ⊎ ((contents_now q).dirty ≡ (at, n) ∷ (contents_now p).dirty)
-  failed_dirty = ⊎_elim (λ none. inl (ap (λ r. (contents_now r).dirty) none)) (λ one. inr (ap (λ h. h.dirty) (contents_push p q (Failed at n) one))) is
+  pub failed_dirty : (contents_now q).dirty ≡ (at, n) ∷ (contents_now p).dirty
+  failed_dirty = ap (λ h. h.dirty) (contents_push p q (Failed at n) is)
 
   pub failed_crash : at + n ≤ length (contents_now p).bytes → Always (Leaves (contents_now q)) (After (Agrees at n) (Leaves (contents_now p)))
-  failed_crash le c left = ⊎_elim
-      (λ none. (c, subst (λ r. Leaves (contents_now r) c) none left, agrees_same at n c))
-      (λ one. torn (contents_now p).dirty at n (contents_now p).bytes (contents_now p).bytes le (agrees_same at n (contents_now p).bytes) c (subst (λ h. Leaves h c) (contents_push p q (Failed at n) one) left))
-      is
+  failed_crash le c left = torn (contents_now p).dirty at n (contents_now p).bytes (contents_now p).bytes le (agrees_same at n (contents_now p).bytes) c (subst (λ h. Leaves h c) (contents_push p q (Failed at n) is) left)
 
 module _ (p q : Past) (is : (q ≡ p) ⊎ (q ≡ with_change p Synced)) where
   pub synced_same : (contents_now q).bytes ≡ (contents_now p).bytes

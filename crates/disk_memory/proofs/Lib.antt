@@ -4,3 +4,4 @@ pub mod Places
 pub mod Walks
 pub mod Syncs
 pub mod Changing
+pub mod CallsAhead

@@ -107,9 +107,9 @@ pub other_push : (es : List Entry) (other : List ℕ) (e : Entry) → is_named o
 other_push [] other e apart = rw apart refl
 other_push (f ∷ es) other e apart = ap (λ p. (if is_named other f then place_of_disk f.disk else p)) (other_push es other e apart)
 
--- a failure that is counted has its cause
-pub counted_failure : {T E : Type 0} (named : Type 0) (before now : ℕ) (error : E) → before ≤ now → now ≡ min (before + 1) (2 ^ 64 - 1) → HasNameCause {T = T} named before now (Err error)
-counted_failure named before now error later is = record { later = later; failed = inr (omega arith) }
+-- a failure that is counted has its cause, and that is not the name
+pub counted_failure : {T E : Type 0} (by_name : Type 0) (before now : ℕ) (error : E) → (by_name → ⊥) → before ≤ now → now ≡ min (before + 1) (2 ^ 64 - 1) → HasNameCause {T = T} by_name before now (Err error)
+counted_failure by_name before now error other later is = record { later = later; uncounted = λ named_so. absurd (other named_so); failed = inr (omega arith) }
 
 -- a disk with its counts at 0 tells what it told
 pub unfailed_same : (m n : Memory) → n ≡ record m { reads = 0; writes = 0 } → TellsSame n m

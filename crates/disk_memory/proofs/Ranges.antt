@@ -1,20 +1,10 @@
 -- What stays of an image where ranges of its bytes change.
-use Rattle.std.proofs.Common.{◌≡◌, ◌<◌, ◌≤◌, ◌⊎◌, inl, inr, ⊎_elim, ◌+◌, ◌-◌, ◌*◌, ℕ, List, [], ◌∷◌, ◌++◌, length, take, drop, get_or, slice_index, slice_range, sym, ap, ◌∙◌, arith, rules, length-append, append_assoc}
-use Rattle.std.proofs.lemmas.List.{drop_at, length-take, length-take-le, length-drop, get_or-take, get_or-drop, get_or_append_left, get_or-append_right, ext_get_or, places}
-use Rattle.std.proofs.lemmas.Slice.{overwrites}
+use Rattle.std.proofs.Common.{◌≡◌, ◌<◌, ◌≤◌, ◌⊎◌, inl, inr, ⊎_elim, ◌+◌, ◌-◌, ◌*◌, ℕ, List, [], ◌∷◌, ◌++◌, length, take, drop, get_or, slice_index, slice_range, sym, ap, ◌∙◌, arith, length-append}
+use Rattle.std.proofs.lemmas.List.{length-take-le, length-drop, get_or-take, get_or-drop, get_or_append_left, get_or-append_right, ext_get_or}
 use Rattle.grid_types.specs.Pages.{page_of}
-use Rattle.disk_trait.specs.Disk.{Agrees, Holds}
+use Rattle.disk_trait.specs.Disk.{Agrees}
 use Rattle.disk_trait.specs.Moments.{AgreesOutside}
 use Rattle.disk_trait.proofs.Pages.{byte_apart, agrees_by_bytes}
-
--- what is written changes nothing outside of its range
-pub holds_agrees : (old : List ℕ) (at : ℕ) (bytes new : List ℕ) → at + length bytes ≤ length old → Holds old at bytes new → Agrees at (length bytes) old new
-holds_agrees old at bytes new le h = rw h (record {
-  same_length = grind (arith, places);
-  before = search (rules, overwrites);
-  after = ap (drop (at + length bytes)) (sym (append_assoc (take at old) bytes (drop (at + length bytes) old)))
-      ∙ drop_at (take at old ++ bytes) (drop (at + length bytes) old) (at + length bytes) (simp (length-append, length-take) (omega arith));
-})
 
 -- c with n bytes of old at a place
 abbrev splice : ℕ → ℕ → List ℕ → List ℕ → List ℕ

@@ -14,7 +14,7 @@ use Rattle.disk_memory.specs.declared.history.Event.TheVariants.{Write, FailedWr
 use Rattle.disk_memory.specs.Events.{change_of}
 use Rattle.disk_memory.specs.Past.{Past, Contents, Change, Written, Failed, Synced, turned, run, contents_now, contents_after, Leaves}
 use Rattle.disk_memory.specs.OnDisk.{is_sync, up_to_sync, on_disk, LiesInside}
-use Rattle.disk_memory.proofs.Ranges.{holds_agrees}
+use Rattle.disk_trait.proofs.Pages.{holds_agrees}
 use Rattle.disk_memory.proofs.Walks.{changes_more, turned_long, contents_long}
 
 -- the changes up to the last sync, where the last change is a sync, and where it is not

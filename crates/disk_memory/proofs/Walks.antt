@@ -8,7 +8,7 @@ use Rattle.disk_memory.specs.declared.history.Event.{Event}
 use Rattle.disk_memory.specs.Events.{change_of}
 use Rattle.disk_memory.specs.Past.{Contents, Change, Written, Failed, Synced, turned, run, contents_after}
 use Rattle.disk_memory.specs.OnDisk.{LiesInside}
-use Rattle.disk_memory.proofs.Ranges.{holds_agrees}
+use Rattle.disk_trait.proofs.Pages.{holds_agrees}
 use Rattle.disk_memory.proofs.Changes.{contents_push, changes_push}
 
 -- the changes of the events, one more

@@ -14,15 +14,15 @@ is_told m = true
 
 -- what reads give
 abbrev pub reads_of : Memory → List ℕ
-reads_of m = (contents_now m.history).bytes
+reads_of m = (contents_now m.history.past).bytes
 
 -- the ranges written since the last sync, each its start and its length
 abbrev pub dirty_of : Memory → List (ℕ × ℕ)
-dirty_of m = (contents_now m.history).dirty
+dirty_of m = (contents_now m.history.past).dirty
 
 -- what is on the disk for good: what reads gave at the last sync
 abbrev pub on_disk_of : Memory → List ℕ
-on_disk_of m = on_disk m.history
+on_disk_of m = on_disk m.history.past
 
 -- how many bytes it has
 abbrev pub extent_of : Memory → ℕ
@@ -34,11 +34,11 @@ MayLeave m image = AgreesOutside (dirty_of m) (reads_of m) image
 
 -- how many changes there were
 abbrev pub moment_of : Memory → ℕ
-moment_of m = length m.history.changes
+moment_of m = length m.history.past.changes
 
 -- a crash since that moment might have left this image
 abbrev pub LeftSince : Memory → ℕ → List ℕ → Type 0
-LeftSince m t image = HadBeen m.history t image
+LeftSince m t image = HadBeen m.history.past t image
 
 -- how many reads have failed
 abbrev pub failed_reads : Memory → ℕ
@@ -80,10 +80,11 @@ pub record CountsWrite {T E : Type 0} (old new : Memory) (result : Result T E) :
   pub writes : failed_writes new ≡ counted result (failed_writes old)
   pub reads : failed_reads new ≡ failed_reads old
 
--- the range of a write was written since the last sync; that of one that fails may have been
-pub record AddsRange {T E : Type 0} (at n : ℕ) (old new : Memory) (result : Result T E) : Type 0 where
+-- the range of a write was written since the last sync, and so was that of one which is to tear; any other that fails adds none
+pub record AddsRange {T E : Type 0} (tears : Type 0) (at n : ℕ) (old new : Memory) (result : Result T E) : Type 0 where
   pub written : OnOk result (dirty_of new ≡ (at, n) ∷ dirty_of old)
-  pub failed : OnErr result ((dirty_of new ≡ dirty_of old) ⊎ (dirty_of new ≡ (at, n) ∷ dirty_of old))
+  pub torn : tears → dirty_of new ≡ (at, n) ∷ dirty_of old
+  pub failed : OnErr result (tears ⊎ (dirty_of new ≡ dirty_of old))
 
 -- no range was written since a sync; after one that fails they are those from before
 pub record ClearsRanges {T E : Type 0} (old new : Memory) (result : Result T E) : Type 0 where

@@ -48,6 +48,15 @@ pub record HadBeen (p : Past) (t : ℕ) (image : List ℕ) : Type 0 where
   pub made : count ≤ length p.changes
   pub left : Leaves (contents_after p.first (take count p.changes)) image
 
+-- a past that is written down, and for how many failed writes more there is room
+pub record Recorded : Type 0 where
+  pub past : Past
+  pub room : ℕ
+
 -- the same past with one change more
 abbrev pub with_change : Past → Change → Past
 with_change p e = record { first = p.first; changes = p.changes ++ e ∷ [] }
+
+-- the same record with one change more, and as much room
+abbrev pub with_recorded : Recorded → Change → Recorded
+with_recorded r e = record { past = with_change r.past e; room = r.room }

@@ -20,8 +20,9 @@ struct Entry {
 
 /// A bay of disks in memory, each under a name that is compared by its bytes.
 ///
-/// A call that was chosen to fail fails before it looks for the name. Where calls of a disk itself have failed, its close
-/// raises the bay's count and puts the disk back all the same. A close that fails loses the disk.
+/// A create or an open looks for the name before all else: what the name refuses is no failure that is counted, also
+/// where that call was chosen to fail. Where calls of a disk itself have failed, its close raises the bay's count and puts
+/// the disk back all the same. A close that fails loses the disk, and leaves what was under the name.
 #[derive(Drop)]
 pub struct MemoryBay {
     alloc: Global,
@@ -110,6 +111,8 @@ impl MemoryBay {
     /// Puts a disk under a name, whatever is there.
     fn put_back(&mut self, name: &str, disk: Memory) -> Result<(), AllocError>
         ensures home { OnOk result (place_of self.new name.now ≡ Home disk) }
+        ensures absent { OnErr result (place_of self.old name.now ≡ Absent) }
+        ensures refused { OnErr result (place_of self.new name.now ≡ Absent) }
         ensures others { SameBut name.now (place_of self.old) (place_of self.new) }
         ensures failures { failures_of self.new ≡ failures_of self.old }
         ensures chosen { chosen_calls self.new ≡ chosen_calls self.old }
@@ -146,7 +149,7 @@ impl Bay for MemoryBay {
     ghost use Rattle.disk_memory.specs.Plans.{after_a_call};
     ghost use Rattle.disk_memory.specs.Memories.{as_disk, extent_of, failed_reads, failed_writes, IsNewMemory};
     ghost use Rattle.disk_memory.specs.Fuses.{IsAs};
-    ghost use Rattle.disk_memory.specs.Bays.{place_of, failures_of, chosen_calls, CountsUnlessNamed, HasNoDisk};
+    ghost use Rattle.disk_memory.specs.Bays.{place_of, failures_of, chosen_calls, CountsUnlessNamed, CountsClose, HasNoDisk};
 
     ghost tells = { λ b. true };
 
@@ -169,11 +172,12 @@ impl Bay for MemoryBay {
         ensures counts { CountsUnlessNamed (place_of self.old name.now ≢ Absent)
             self.old self.new result }
     {
-        if self.plan.is_next_chosen() {
-            return Err(count_failure(&mut self.failures));
-        }
+        let is_chosen = self.plan.is_next_chosen();
         if self.find(name).is_some() {
             return Err(BayFailed);
+        }
+        if is_chosen {
+            return Err(count_failure(&mut self.failures));
         }
         let Ok(disk) = Memory::new(self.alloc, pages) else {
             return Err(count_failure(&mut self.failures));
@@ -200,12 +204,13 @@ impl Bay for MemoryBay {
         ensures counts { CountsUnlessNamed (place_of self.old name.now ≡ Absent)
             self.old self.new result }
     {
-        if self.plan.is_next_chosen() {
-            return Err(count_failure(&mut self.failures));
-        }
+        let is_chosen = self.plan.is_next_chosen();
         let Some(index) = self.find(name) else {
             return Err(BayFailed);
         };
+        if is_chosen {
+            return Err(count_failure(&mut self.failures));
+        }
         match self.entries[index].disk.take() {
             Some(disk) => Ok(disk.unfailed()),
             None => Err(count_failure(&mut self.failures)),
@@ -214,6 +219,7 @@ impl Bay for MemoryBay {
 
     fn close(&mut self, name: &str, disk: Memory) -> Result<(), BayFailed>
         ensures home { OnOk result (place_of self.new name.now ≡ Home disk) }
+        ensures refused { OnErr result (place_of self.new name.now ≡ place_of self.old name.now) }
         ensures others { SameBut name.now (place_of self.old) (place_of self.new) }
         ensures read_failed { failed_reads disk ≢ 0
             → Rose (failures_of self.old) (failures_of self.new) }
@@ -221,13 +227,11 @@ impl Bay for MemoryBay {
             → Rose (failures_of self.old) (failures_of self.new) }
         ensures cause { HasCause (failures_of self.old) (failures_of self.new) result }
 
-        // A close that was chosen fails, and any other only for want of memory. It counts one failure at most.
+        // A close that was chosen fails, and any other only for want of memory, where the name is new.
         ensures fails { Contains (chosen_calls self.old) 1 → IsErr result }
-        ensures uncounted { OnOk result (failed_reads disk ≡ 0
-            → failed_writes disk ≡ 0
-            → failures_of self.new ≡ failures_of self.old) }
-        ensures once { failures_of self.new ≤ failures_of self.old + 1 }
-        ensures nearer { chosen_calls self.new ≡ after_a_call (chosen_calls self.old) }
+        ensures failed { OnErr result
+            (Contains (chosen_calls self.old) 1 ⊎ (place_of self.old name.now ≡ Absent)) }
+        ensures counts { CountsClose disk self.old self.new result }
     {
         let disk_failed = disk.read_faults() != 0 || disk.write_faults() != 0;
         let is_closed = !self.plan.is_next_chosen() && self.put_back(name, disk).is_ok();

@@ -78,11 +78,11 @@ impl Disk for Fused {
 
     ghost whole = { λ f h. refl };
 
-    ghost seen_now = { λ f h. leaves_itself (disk_of f).history };
+    ghost seen_now = { λ f h. leaves_itself (disk_of f).history.past };
 
-    ghost counts_now = { λ f t c h le now. had_been_now (disk_of f).history t c le now };
+    ghost counts_now = { λ f t c h le now. had_been_now (disk_of f).history.past t c le now };
 
-    ghost only_now = { λ f c h left. only_last (disk_of f).history c left };
+    ghost only_now = { λ f c h left. only_last (disk_of f).history.past c left };
 
     fn size(&self) -> u64 {
         self.disk.size()
@@ -128,14 +128,15 @@ impl Disk for Fused {
             (failed_writes (disk_of self.new)) result }
 
         // A write fails where the fuse has stopped the disk, where it was chosen, or for want of memory. One that is not
-        // made changes nothing.
+        // made changes nothing; one that is made and was chosen may be torn.
         ensures fails { (calls_left self.old ≡ 0) ⊎ Contains (chosen_of (disk_of self.old)) 1
             → IsErr result }
         ensures unwritten { OnErr result
             (reads_of (disk_of self.new) ≡ reads_of (disk_of self.old)) }
         ensures counts { CountsWrite (disk_of self.old) (disk_of self.new) result }
-        ensures ranges { AddsRange at (length bytes.now)
-            (disk_of self.old) (disk_of self.new) result }
+        ensures ranges { AddsRange
+            ((calls_left self.old ≢ 0) × Contains (chosen_of (disk_of self.old)) 1)
+            at (length bytes.now) (disk_of self.old) (disk_of self.new) result }
         ensures fuse { LetsOneLess self.old self.new }
     {
         if !is_made(&mut self.left) {

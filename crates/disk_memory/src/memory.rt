@@ -7,6 +7,7 @@ ghost use Rattle.grid_types.specs.Pages.{page_of};
 ghost use Rattle.disk_trait.specs.Disk.{Only, Agrees, Holds, InOnePage};
 ghost use Rattle.disk_trait.specs.Moments.{After, Always};
 ghost use Rattle.disk_memory.specs.Past.{contents_now};
+ghost use Rattle.disk_memory.specs.Plans.{calls_ahead};
 
 use crate::history::DiskHistory;
 use crate::keep::Keep;
@@ -21,8 +22,8 @@ use std::sync::ledger::Ledger;
 ///
 /// Between two syncs a crash may leave anything in the ranges that were written since, also by writes that failed, and
 /// leaves all else as it was. Reads give each write's bytes at once. A write that was chosen to fail leaves what reads
-/// give as it was; one whose record finds no memory fails too, and changes nothing. A read or a sync fails only where it
-/// was chosen.
+/// give as it was, and is always recorded: room for it is kept from the choice on. One whose record finds no memory fails
+/// too, and changes nothing. A read or a sync fails only where it was chosen.
 #[derive(Drop)]
 pub struct Memory {
     history: DiskHistory,
@@ -30,7 +31,8 @@ pub struct Memory {
     plan: Plan,
     reads: u64,
     writes: u64,
-    ghost kept: { bytes.items ≡ (contents_now history).bytes },
+    ghost kept: { bytes.items ≡ (contents_now history.past).bytes },
+    ghost room: { calls_ahead plan ≤ history.room },
 }
 
 impl Memory {
@@ -70,7 +72,8 @@ impl Memory {
         })
     }
 
-    /// From now on that call fails, counted from 1 over reads, writes and syncs: 1 is the next of them.
+    /// From now on that call fails, counted from 1 over reads, writes and syncs: 1 is the next of them. Where it is a write
+    /// there is room for its record, which is wanted here and not then.
     pub fn fail(&mut self, call: u64) -> Result<(), AllocError>
         ensures same { TellsSame self.new self.old }
         ensures dirty { dirty_of self.new ≡ dirty_of self.old }
@@ -79,6 +82,7 @@ impl Memory {
         ensures chosen { OnOk result (chosen_of self.new ≡ chosen_of self.old ++ call ∷ []) }
         ensures refused { OnErr result (chosen_of self.new ≡ chosen_of self.old) }
     {
+        self.history.keep_room()?;
         self.plan.choose(call)
     }
 
@@ -163,11 +167,11 @@ impl Disk for Memory {
 
     ghost whole = { λ m h. refl };
 
-    ghost seen_now = { λ m h. leaves_itself m.history };
+    ghost seen_now = { λ m h. leaves_itself m.history.past };
 
-    ghost counts_now = { λ m t c h le now. had_been_now m.history t c le now };
+    ghost counts_now = { λ m t c h le now. had_been_now m.history.past t c le now };
 
-    ghost only_now = { λ m c h left. only_last m.history c left };
+    ghost only_now = { λ m c h left. only_last m.history.past c left };
 
     fn size(&self) -> u64 {
         self.bytes.len() as u64
@@ -209,16 +213,17 @@ impl Disk for Memory {
         ensures time { TimeGoesOn self.old self.new }
         ensures cause { HasCause (failed_writes self.old) (failed_writes self.new) result }
 
-        // A write that was chosen fails, and any other only for want of memory.
+        // A write that was chosen fails, and may be torn; any other fails only for want of memory, and adds no range.
         ensures fails { Contains (chosen_of self.old) 1 → IsErr result }
         ensures unwritten { OnErr result (reads_of self.new ≡ reads_of self.old) }
         ensures counts { CountsWrite self.old self.new result }
         ensures nearer { chosen_of self.new ≡ after_a_call (chosen_of self.old) }
-        ensures ranges { AddsRange at (length bytes.now) self.old self.new result }
+        ensures ranges { AddsRange (Contains (chosen_of self.old) 1) at (length bytes.now)
+            self.old self.new result }
     {
         let at = at as usize;
         if self.plan.is_next_chosen() {
-            let _ = self.history.record_failed_write(at, bytes.len());
+            self.history.record_failed_write(at, bytes.len());
             return Err(self.refuse_write());
         }
         match self.history.record_write(at, bytes) {

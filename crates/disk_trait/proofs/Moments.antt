@@ -1,5 +1,6 @@
 -- How the moments of sections of calls join.
-use Rattle.std.proofs.Common.{inl, inr, ⊎_elim, ℕ, List, arith}
+use Rattle.std.proofs.Common.{◌≤◌, inl, inr, ⊎_elim, ℕ, List, arith}
+use Rattle.std.specs.Prelude.{Bool, IsTrue}
 use Rattle.disk_trait.specs.Moments.{After, Always, Elapses, LeavesOnly}
 
 module _ {D : Type 0} (moment : D → ℕ) (left_since : D → ℕ → List ℕ → Type 0) where
@@ -51,3 +52,8 @@ module _ {D : Type 0} (moment : D → ℕ) (left_since : D → ℕ → List ℕ 
     each = λ c left. join c (first.each c left) (second.each c left);
     before = λ t c le left. ⊎_elim (λ older. inl older) (λ p. ⊎_elim (λ older. inl older) (λ q. inr (join c p q)) (second.before t c le left)) (first.before t c le left);
   }
+
+  -- what holds at each moment of a section holds in each image that a crash now may leave, as this moment is one of them
+  pub holds_now : (honest : D → Bool) (may_leave : D → List ℕ → Type 0) → ((d : D) (t : ℕ) (c : List ℕ) → IsTrue (honest d) → t ≤ moment d → may_leave d c → left_since d t c) → (old new : D) (P : List ℕ → Type 0)
+      → IsTrue (honest new) → LeavesOnly moment left_since old new P → Always (may_leave new) P
+  holds_now honest may_leave counts_now old new P told leaves c now = leaves.each c (counts_now new (moment old) c told leaves.later now)

@@ -1,6 +1,7 @@
 -- What stays of an image where a range of its bytes changes, and what stands in the range after a write.
-use Rattle.std.proofs.Common.{◌≡◌, ◌<◌, ◌≤◌, ◌⊎◌, inl, inr, ◌+◌, ◌-◌, ◌*◌, ℕ, List, [], ◌∷◌, ◌++◌, length, take, drop, get_or, slice_index, refl, sym, ap, ◌∙◌, arith}
-use Rattle.std.proofs.lemmas.List.{take-take, drop-drop, drop-take, drop_at, take_at, length-take-le, length-drop, get_or-take, get_or-drop, ext_get_or}
+use Rattle.std.proofs.Common.{◌≡◌, ◌<◌, ◌≤◌, ◌⊎◌, inl, inr, ◌+◌, ◌-◌, ◌*◌, ℕ, List, [], ◌∷◌, ◌++◌, length, take, drop, get_or, slice_index, refl, sym, ap, ◌∙◌, arith, rules, length-append, append_assoc}
+use Rattle.std.proofs.lemmas.List.{take-take, drop-drop, drop-take, drop_at, take_at, length-take, length-take-le, length-drop, get_or-take, get_or-drop, ext_get_or, places}
+use Rattle.std.proofs.lemmas.Slice.{overwrites}
 use Rattle.grid_types.specs.Pages.{page_of}
 use Rattle.grid_types.specs.declared.sizes.TheConstants.{PAGE_BYTES}
 use Rattle.disk_trait.specs.Disk.{Agrees, Holds}
@@ -63,6 +64,15 @@ drop_same at n c d len each =
 -- images that have the same bytes outside of a range agree outside of it
 pub agrees_by_bytes : (at n : ℕ) (c d : List ℕ) → at ≤ length c → length d ≡ length c → ((i : ℕ) → (i < at) ⊎ (at + n ≤ i) → slice_index d i ≡ slice_index c i) → Agrees at n c d
 agrees_by_bytes at n c d le len each = record { same_length = len; before = take_same at n c d len each le; after = drop_same at n c d len each }
+
+-- what is written changes nothing outside of its range
+pub holds_agrees : (old : List ℕ) (at : ℕ) (bytes new : List ℕ) → at + length bytes ≤ length old → Holds old at bytes new → Agrees at (length bytes) old new
+holds_agrees old at bytes new le h = rw h (record {
+  same_length = grind (arith, places);
+  before = search (rules, overwrites);
+  after = ap (drop (at + length bytes)) (sym (append_assoc (take at old) bytes (drop (at + length bytes) old)))
+      ∙ drop_at (take at old ++ bytes) (drop (at + length bytes) old) (at + length bytes) (simp (length-append, length-take) (omega arith));
+})
 
 -- the bytes that were written stand where they were written
 pub part_written : (old : List ℕ) (at : ℕ) (bytes new : List ℕ) → at ≤ length old → Holds old at bytes new → take (length bytes) (drop at new) ≡ bytes

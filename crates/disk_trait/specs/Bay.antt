@@ -25,9 +25,10 @@ pub record SameElsewhere {B D : Type 0} (tells_of : B → Bool) (place_of : B �
   pub tells : tells_of new ≡ tells_of old
   pub others : IsTrue (tells_of old) → SameBut name (place_of old) (place_of new)
 
--- a count does not fall, and a failure is told only where it rose, or where the name itself is the cause
+-- a count does not fall; it stays where the name itself is the cause, and any other failure is told only where it rose
 pub record HasNameCause {T E : Type 0} (named : Type 0) (before now : ℕ) (result : Result T E) : Type 0 where
   pub later : before ≤ now
+  pub uncounted : named → now ≡ before
   pub failed : OnErr result (named ⊎ Rose before now)
 
 -- n zeros; it has a name, since a numeral in the place of n would be computed in each goal

@@ -15,7 +15,7 @@ pub struct BayFailed;
 /// Where disks are made, handed out by name, and put back.
 ///
 /// Its count of failures never falls. It rises at each failure but one: that a bay which tells its names has to make a
-/// name that is there, or to open one that is absent.
+/// name that is there, or to open one that is absent. There the count stays, also where the device would have failed.
 pub trait Bay {
     /// The disks that it hands out.
     type Disk: Disk + Send;

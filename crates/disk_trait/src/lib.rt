@@ -14,7 +14,7 @@ mod steps;
 
 pub use bay::{Bay, BayFailed};
 pub use disk::{Disk, DiskFailed};
-pub use section::{read_page, write_through};
+pub use section::{read_page, sync_all, write_page, write_through};
 pub use sink::{Sink, SinkFailed, put_all};
 pub use source::{Source, SourceFailed};
 pub use steps::Steps;

@@ -6,8 +6,8 @@ use Rattle.disk_memory.specs.Bays.{place_of_disk, place_among}
 use Rattle.disk_memory.proofs.Places.{found_place, changed_place, changed_others, counted_failure, unfailed_same}
 use Rattle.disk_memory.proofs.bay.MemoryBayBay.open.Goals as goal
 
-pub returns-then-is_next_chosen-clause-cause : goal.returns-then-is_next_chosen-clause-cause
-returns-then-is_next_chosen-clause-cause c = counted_failure _ _ _ _ c.count_failure.ensures.later c.count_failure.ensures.counted
+pub returns-then-is_chosen-clause-cause : goal.returns-then-is_chosen-clause-cause
+returns-then-is_chosen-clause-cause c = counted_failure _ _ _ _ (λ absent. let none = c.in-Some.ensures.absent.1 absent in cc) c.count_failure.ensures.later c.count_failure.ensures.counted
 
 -- the disk that lay under the name
 lay_there : (c : goal.After-unfailed) → place_among c.args.self.now.entries.items c.args.name.now ≡ Home c.in-Some-take.disk
@@ -29,4 +29,4 @@ pub returns-in-Some-take-clause-others : goal.returns-in-Some-take-clause-others
 returns-in-Some-take-clause-others c = changed_others _ _ _ c.index_mut.result.now _ (sym c.in-Some.ensures.first) c.index_mut.ensures.value refl
 
 pub returns-in-None-clause-cause : goal.returns-in-None-clause-cause
-returns-in-None-clause-cause c = counted_failure _ _ _ _ c.count_failure-in-None.ensures.later c.count_failure-in-None.ensures.counted
+returns-in-None-clause-cause c = counted_failure _ _ _ _ (λ absent. let none = c.in-Some.ensures.absent.1 absent in cc) c.count_failure-in-None.ensures.later c.count_failure-in-None.ensures.counted

@@ -1,4 +1,4 @@
-use Rattle.std.proofs.Common.{rules, ◌++◌, ◌∷◌, [], ◌≡◌, ◌∙◌, ap, sym, subst, length, map, ℕ}
+use Rattle.std.proofs.Common.{arith, ◌++◌, ◌∷◌, [], ◌≡◌, ◌∙◌, ap, sym, subst, length, map, ℕ}
 use Rattle.std.specs.Prelude.{All}
 use Rattle.std.proofs.lemmas.List.Elements.{All-map}
 use Rattle.disk_memory.specs.declared.history.Event.{Event}
@@ -13,10 +13,11 @@ invariant_of-self-2 c =
     let first = c.self.inside.first.items in
     let events = c.self.inside.events.items in
     let P = λ (e : Event). LiesInside (length first) (change_of e) in
-    let long : length (contents_now c.args.self.now).bytes ≡ length first = ap (λ p. length (contents_now p).bytes) (sym c.self.view_is) ∙ contents_long first (map change_of events) (All-map (LiesInside (length first)) change_of events c.self.invariant.inside) in
+    let long : length (contents_now c.args.self.now.past).bytes ≡ length first = ap (λ r. length (contents_now r.past).bytes) (sym c.self.view_is) ∙ contents_long first (map change_of events) (All-map (LiesInside (length first)) change_of events c.self.invariant.inside) in
     let one = subst (λ (n : ℕ). LiesInside n (change_of c.args.event)) long c.requires in
     record {
-      inside = subst (All P) (sym (c.in_ok-push.ensures.items ∙ ap (λ es. es ++ c.args.event ∷ []) c.reserve.ensures.items)) (all_push P events c.args.event c.self.invariant.inside one);
+      inside = subst (All P) (sym (c.in_ok-push.ensures.items ∙ ap (λ es. es ++ c.args.event ∷ []) c.make_room.ensures.items)) (all_push P events c.args.event c.self.invariant.inside one);
       clean = λ h. cc;
-      room = λ h. search rules;
+      spare = omega (arith, c.in_ok-push.ensures.len, c.in_ok-push.ensures.capacity, c.in_ok-make_room.ensures.room);
+      room = λ h. omega (arith, c.in_ok-push.ensures.len, c.in_ok-push.ensures.capacity, c.in_ok-make_room.ensures.room);
     }

@@ -20,7 +20,7 @@ start_long : (c : goal.After-deref_mut) → length c.deref_mut.result.now ≡ le
 start_long c =
     let first = c.self.inside.first.items in
     let events = c.self.inside.events.items in
-    ap length (start_is c ∙ c.requires) ∙ ap (λ p. length (contents_now p).bytes) (sym c.self.view_is) ∙ contents_long first (map change_of events) (All-map (LiesInside (length first)) change_of events c.self.invariant.inside)
+    ap length (start_is c ∙ c.requires) ∙ ap (λ r. length (contents_now r.past).bytes) (sym c.self.view_is) ∙ contents_long first (map change_of events) (All-map (LiesInside (length first)) change_of events c.self.invariant.inside)
 
 pub change_unsynced-requires-clause-inside : goal.change_unsynced-requires-clause-inside
 change_unsynced-requires-clause-inside c =
@@ -31,7 +31,7 @@ change_unsynced-requires-clause-synced c =
     let first = c.self.inside.first.items in
     let events = c.self.inside.events.items in
     ap length (c.deref-2.ensures.value ∙ c.in_ok-synced.ensures.bytes)
-    ∙ ap (λ p. length (on_disk p)) (sym c.self.view_is)
+    ∙ ap (λ r. length (on_disk r.past)) (sym c.self.view_is)
     ∙ on_disk_long (past_of c.self.inside) (All-map (LiesInside (length first)) change_of events c.self.invariant.inside)
     ∙ sym (start_long c)
 
@@ -40,6 +40,6 @@ returns-clause-outside c =
     let first = c.self.inside.first.items in
     let after = c.change_unsynced.ensures.outside first in
     let is : c.deref_mut.result.now ≡ c.args.bytes.now = c.deref_mut.ensures.value ∙ c.in_ok-image.ensures.items_if_clones_equal (λ x y e. e) in
-    let ranges : (contents_after first (map change_of c.deref.result.now)).dirty ≡ (contents_now c.args.self.now).dirty = ap (λ es. (contents_after first (map change_of es)).dirty) c.deref.ensures.value ∙ ap (λ p. (contents_now p).dirty) c.self.view_is in
+    let ranges : (contents_after first (map change_of c.deref.result.now)).dirty ≡ (contents_now c.args.self.now.past).dirty = ap (λ es. (contents_after first (map change_of es)).dirty) c.deref.ensures.value ∙ ap (λ r. (contents_now r.past).dirty) c.self.view_is in
     let items = with_items_is c.in_ok-image.image c.change_unsynced.new.image (after.same_length ∙ c.deref_mut.ensures.len) in
-    subst (AgreesOutside (contents_now c.args.self.now).dirty c.args.bytes.now) (sym items) (subst (λ (b : List ℕ). AgreesOutside (contents_now c.args.self.now).dirty b c.change_unsynced.new.image) is (subst (λ rs. AgreesOutside rs c.deref_mut.result.now c.change_unsynced.new.image) ranges after))
+    subst (AgreesOutside (contents_now c.args.self.now.past).dirty c.args.bytes.now) (sym items) (subst (λ (b : List ℕ). AgreesOutside (contents_now c.args.self.now.past).dirty b c.change_unsynced.new.image) is (subst (λ rs. AgreesOutside rs c.deref_mut.result.now c.change_unsynced.new.image) ranges after))

@@ -19,11 +19,11 @@ returns-clause-bytes c =
     ∙ ap (λ cs. (contents_after start cs).bytes) c.synced_count.ensures.synced
     ∙ ap (λ es. (contents_after start (up_to_sync (map change_of es))).bytes) c.deref-3.ensures.value
     ∙ ap (λ (f : List ℕ). (contents_after f (up_to_sync (map change_of events))).bytes) base
-    ∙ ap on_disk c.self.view_is
+    ∙ ap (λ r. on_disk r.past) c.self.view_is
 
 pub returns-clause-left : goal.returns-clause-left
 returns-clause-left c =
     let first = c.self.inside.first.items in
     let left = on_disk_left (past_of c.self.inside) (All-map (LiesInside (length first)) change_of c.self.inside.events.items c.self.invariant.inside) in
     let is = returns-clause-bytes c in
-    subst (Leaves (contents_now c.args.self.now)) (sym is) (subst (λ p. Leaves (contents_now p) (on_disk p)) c.self.view_is left)
+    subst (Leaves (contents_now c.args.self.now.past)) (sym is) (subst (λ r. Leaves (contents_now r.past) (on_disk r.past)) c.self.view_is left)
