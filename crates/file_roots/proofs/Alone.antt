@@ -9,14 +9,14 @@ use Rattle.grid_types.specs.Shapes.{is_shape, header_page, table_page, header_ga
 use Rattle.grid_types.proofs.Places.{table-page-lies}
 use Rattle.grid_model.specs.Spellings.{RootFields}
 use Rattle.grid_model.specs.Lawful.{Area}
-use Rattle.grid_model.specs.Images.{HasShape, HasArea}
-use Rattle.grid_model.specs.Roots.{WholeRoot, ComesNext, IsReady}
+use Rattle.grid_model.specs.Images.{HasShape, IsOtherOlder, HasArea}
+use Rattle.grid_model.specs.Roots.{WholeRoot, ComesNext, KeepsOld, IsReady}
 use Rattle.disk_trait.specs.Moments.{IsOutside}
 use Rattle.disk_trait.proofs.Pages.{part_of_page}
 use Rattle.disk_trait.proofs.Ranges.{outside_one, outside_more, outside_part}
 use Rattle.file_roots.specs.Places.{GateAlone, FieldsAlone, HeaderAlone, AreaAlone, RootAlone}
 use Rattle.file_roots.proofs.Headers.{header_two, gate_stays, off_page, area_high, gate_off_area, areas_apart}
-use Rattle.file_roots.proofs.Frames.{OtherRootStays, area_by_pages, ready_by_pages, page_outside}
+use Rattle.file_roots.proofs.Frames.{OtherRootStays, other_by_page, kept_by_pages, area_by_pages, ready_by_pages, page_outside}
 
 -- what changes fewer bytes of a root changes more of them alone
 pub fields_in_header : (number : ℕ) (c d : List ℕ) → FieldsAlone number c d → HeaderAlone number c d
@@ -76,6 +76,14 @@ module _ (s : Shape) (lawful : IsTrue (is_shape s)) (number : ℕ) (c d : List �
             let apart = areas_apart s own other k (header_two number) (header_two (number + 1)) (λ e. absurd (omega (arith, e))) lt in
             page_outside (root_ranges s number) (table_page s other k) c d (λ i low high. (outside_by (table_page s other k) (area_at s number) (area_bytes s) i apart low high, above_headers number i (omega (arith, low, p.first)))) a;
       }
+
+  -- so what the other header page keeps stays
+  pub keeps_alone : (old : Option WholeRoot) → RootAlone s number c d → ComesNext old number → KeepsOld s number old c → KeepsOld s number old d
+  keeps_alone old a comes keeps = kept_by_pages s c d number old (other_root_stays a) comes keeps
+
+  -- and is as old as it was
+  pub older_alone : RootAlone s number c d → IsOtherOlder s number c → IsOtherOlder s number d
+  older_alone a older = other_by_page s c d number (other_root_stays a).header older
 
   -- a table area stays where only a header page changes
   pub area_above : HeaderAlone number c d → (r : RootFields) (a : Area) → HasArea s c r a → HasArea s d r a

@@ -158,12 +158,22 @@ module _ (s : Shape) (lawful : IsTrue (is_shape s)) where
   pub stays_past : (at n : ℕ) (c d : List ℕ) → gate_page s 0 * 4096 ≤ at → Agrees at n c d → RootPagesStay s c d
   stays_past at n c d high a = stays_behind ((at, n) ∷ []) c d (λ i low. (inl (omega (arith, low, high)), tt)) (outside_one at n c d a)
 
+  -- a data page lies there
+  data_high : (page : ℕ) → page < s.pages → gate_page s 0 * 4096 ≤ data_page s page * 4096
+  data_high page lt = omega (arith, (data-page-lies s page lt).value, (gate-page s).0)
+
   -- as a data page
   pub stays_at_data : (page : ℕ) (c d : List ℕ) → page < s.pages → AgreesOutside (page_range (data_page s page) ∷ []) c d → RootPagesStay s c d
-  stays_at_data page c d lt a = stays_behind _ c d (λ i low. (inl (omega (arith, low, data_high page lt)), tt)) a
-    where
-      data_high : (page : ℕ) → page < s.pages → gate_page s 0 * 4096 ≤ data_page s page * 4096
-      data_high page lt = omega (arith, (data-page-lies s page lt).value, (gate-page s).0)
+  stays_at_data page c d lt a = stays_behind (page_range (data_page s page) ∷ []) c d (λ i low. (inl (omega (arith, low, data_high page lt)), tt)) a
+
+  -- as bytes from a data page on
+  pub stays_from_data : (page at n : ℕ) (c d : List ℕ) → page < s.pages → data_page s page * 4096 ≤ at → Agrees at n c d → RootPagesStay s c d
+  stays_from_data page at n c d lt high a = stays_past at n c d (omega (arith, high, data_high page lt)) a
+
+  -- as gates of slots
+  pub stays_at_gates : (half slot n : ℕ) (c d : List ℕ) → half < 2 → Agrees (slot_gate_at s half slot) n c d → RootPagesStay s c d
+  unfolding slot_gate_at
+  stays_at_gates half slot n c d two a = let g = gate-page-lies s half lawful two in stays_past (slot_gate_at s half slot) n c d (omega (arith, g.behind)) a
 
   -- as a slot with its gate
   pub stays_at_slot : (half slot : ℕ) (c d : List ℕ) → half < 2 → slot < s.slots → AgreesOutside (slot_ranges s half slot) c d → RootPagesStay s c d
