@@ -16,7 +16,7 @@ use Rattle.disk_trait.proofs.Pages.{part_of_page}
 use Rattle.disk_trait.proofs.Ranges.{outside_one, outside_more, outside_part}
 use Rattle.file_roots.specs.Places.{GateAlone, FieldsAlone, HeaderAlone, AreaAlone, RootAlone}
 use Rattle.file_roots.proofs.Headers.{header_two, gate_stays, off_page, area_high, gate_off_area, areas_apart}
-use Rattle.file_roots.proofs.Frames.{OtherRootStays, other_by_page, kept_by_pages, area_by_pages, ready_by_pages, page_outside}
+use Rattle.file_roots.proofs.Frames.{OtherRootStays, shape_by_fronts, other_by_page, kept_by_pages, area_by_pages, ready_by_pages, page_outside}
 
 -- what changes fewer bytes of a root changes more of them alone
 pub fields_in_header : (number : ℕ) (c d : List ℕ) → FieldsAlone number c d → HeaderAlone number c d
@@ -100,13 +100,7 @@ module _ (s : Shape) (lawful : IsTrue (is_shape s)) (number : ℕ) (c d : List �
       ∙ sym (part_of_page header 0 64 c (omega arith))
 
   pub shape_stays : (K : ℕ) → RootAlone s number c d → HasShape K c s → HasShape K d s
-  shape_stays K a shape = record {
-    lawful = shape.lawful;
-    attributes = shape.attributes;
-    first = front_stays 0 (omega arith) a ∙ shape.first;
-    second = front_stays 1 (omega arith) a ∙ shape.second;
-    long = omega (arith, shape.long, a.same_length);
-  }
+  shape_stays K a shape = shape_by_fronts s c d K a.same_length (front_stays 0 (omega arith) a) (front_stays 1 (omega arith) a) shape
 
   module _ (old : Option WholeRoot) (comes : ComesNext old number) where
     -- an image stays ready while the table area is written
