@@ -9,14 +9,14 @@ use Rattle.grid_types.specs.Shapes.{is_shape, header_page, table_page, header_ga
 use Rattle.grid_types.proofs.Places.{table-page-lies}
 use Rattle.grid_model.specs.Spellings.{RootFields}
 use Rattle.grid_model.specs.Lawful.{Area}
-use Rattle.grid_model.specs.Images.{HasShape, HasArea}
-use Rattle.grid_model.specs.Roots.{WholeRoot, ComesNext, IsReady}
+use Rattle.grid_model.specs.Images.{HasShape, IsOtherOlder, HasArea}
+use Rattle.grid_model.specs.Roots.{WholeRoot, ComesNext, KeepsOld, IsReady}
 use Rattle.disk_trait.specs.Moments.{IsOutside}
 use Rattle.disk_trait.proofs.Pages.{part_of_page}
 use Rattle.disk_trait.proofs.Ranges.{outside_one, outside_more, outside_part}
 use Rattle.file_roots.specs.Places.{GateAlone, FieldsAlone, HeaderAlone, AreaAlone, RootAlone}
 use Rattle.file_roots.proofs.Headers.{header_two, gate_stays, off_page, area_high, gate_off_area, areas_apart}
-use Rattle.file_roots.proofs.Frames.{OtherRootStays, area_by_pages, ready_by_pages, page_outside}
+use Rattle.file_roots.proofs.Frames.{OtherRootStays, shape_by_fronts, other_by_page, kept_by_pages, area_by_pages, ready_by_pages, page_outside}
 
 -- what changes fewer bytes of a root changes more of them alone
 pub fields_in_header : (number : ℕ) (c d : List ℕ) → FieldsAlone number c d → HeaderAlone number c d
@@ -77,6 +77,14 @@ module _ (s : Shape) (lawful : IsTrue (is_shape s)) (number : ℕ) (c d : List �
             page_outside (root_ranges s number) (table_page s other k) c d (λ i low high. (outside_by (table_page s other k) (area_at s number) (area_bytes s) i apart low high, above_headers number i (omega (arith, low, p.first)))) a;
       }
 
+  -- so what the other header page keeps stays
+  pub keeps_alone : (old : Option WholeRoot) → RootAlone s number c d → ComesNext old number → KeepsOld s number old c → KeepsOld s number old d
+  keeps_alone old a comes keeps = kept_by_pages s c d number old (other_root_stays a) comes keeps
+
+  -- and is as old as it was
+  pub older_alone : RootAlone s number c d → IsOtherOlder s number c → IsOtherOlder s number d
+  older_alone a older = other_by_page s c d number (other_root_stays a).header older
+
   -- a table area stays where only a header page changes
   pub area_above : HeaderAlone number c d → (r : RootFields) (a : Area) → HasArea s c r a → HasArea s d r a
   area_above alone r a area = area_by_pages s c d r a (λ i lt.
@@ -92,13 +100,7 @@ module _ (s : Shape) (lawful : IsTrue (is_shape s)) (number : ℕ) (c d : List �
       ∙ sym (part_of_page header 0 64 c (omega arith))
 
   pub shape_stays : (K : ℕ) → RootAlone s number c d → HasShape K c s → HasShape K d s
-  shape_stays K a shape = record {
-    lawful = shape.lawful;
-    attributes = shape.attributes;
-    first = front_stays 0 (omega arith) a ∙ shape.first;
-    second = front_stays 1 (omega arith) a ∙ shape.second;
-    long = omega (arith, shape.long, a.same_length);
-  }
+  shape_stays K a shape = shape_by_fronts s c d K a.same_length (front_stays 0 (omega arith) a) (front_stays 1 (omega arith) a) shape
 
   module _ (old : Option WholeRoot) (comes : ComesNext old number) where
     -- an image stays ready while the table area is written

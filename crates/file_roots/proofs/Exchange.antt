@@ -12,8 +12,8 @@ use Rattle.file_roots.specs.Places.{GateAlone}
 use Rattle.file_roots.specs.Replacing.{NextMayBeWritten}
 use Rattle.file_roots.specs.Writing.{closed_gate, HasNewFields, IsHeaderWritten, HeaderStep}
 use Rattle.file_roots.proofs.Headers.{header_two, other_header, fields_stay}
-use Rattle.file_roots.proofs.Frames.{other_by_page, kept_by_pages, under_by}
-use Rattle.file_roots.proofs.Alone.{gate_in_header, gate_in_root, header_in_root, other_root_stays, area_above, ready_fields}
+use Rattle.file_roots.proofs.Frames.{under_by}
+use Rattle.file_roots.proofs.Alone.{gate_in_header, gate_in_root, header_in_root, keeps_alone, older_alone, area_above, ready_fields}
 
 module _ (s : Shape) where
   -- fields under an open gate
@@ -126,7 +126,7 @@ closed_gate_shut gate = elim (cases_eq gate 1) [
 module _ (s : Shape) (lawful : IsTrue (is_shape s)) (number : ℕ) (old : Option WholeRoot) (comes : ComesNext old number) (c d : List ℕ) (alone : GateAlone number c d) where
   -- fields, table areas and the old root stay while a gate is closed
   closing_keeps : KeepsOld s number old c → KeepsOld s number old d
-  closing_keeps keeps = kept_by_pages s c d number old (other_root_stays s lawful number c d (gate_in_root s number c d alone)) comes keeps
+  closing_keeps keeps = keeps_alone s lawful number c d old (gate_in_root s number c d alone) comes keeps
 
   -- what stands under the gate stays
   pub under_gate : (tried : Option WholeRoot) → HasOlderOrTried s (header_page number) old tried c → HasOlderOrTried s (header_page number) old tried d
@@ -149,7 +149,7 @@ module _ (s : Shape) (lawful : IsTrue (is_shape s)) (new : WholeRoot) (root : Ar
   pub header_step_is_replaceable : (seen c d : List ℕ) → HasAreaOf s new seen → IsReady s new.fields.number old seen → IsReady s new.fields.number old c → HeaderStep new.fields seen c d → IsReplaceable s new.fields.number old (Some new) d
   header_step_is_replaceable seen c d area ready was (inl fields) = ready_is_replaceable s new.fields.number old (Some new) d (ready_fields s lawful new.fields.number c d old comes fields was)
   header_step_is_replaceable seen c d area ready was (inr now) = record {
-    keeps = kept_by_pages s seen d new.fields.number old (other_root_stays s lawful new.fields.number seen d (header_in_root s new.fields.number seen d now.elsewhere)) comes ready.keeps;
+    keeps = keeps_alone s lawful new.fields.number seen d old (header_in_root s new.fields.number seen d now.elsewhere) comes ready.keeps;
     under = inr (tried_there seen d area now);
   }
 
@@ -160,7 +160,7 @@ newest_once_written s lawful new root seen d area other now =
     record {
       newest = record {
         opens = record { gate = now.opened; spelled = now.written.fields_are; lawful = root };
-        other = other_by_page s seen d number (other_root_stays s lawful number seen d (header_in_root s number seen d now.written.elsewhere)).header other;
+        other = older_alone s lawful number seen d (header_in_root s number seen d now.written.elsewhere) other;
       };
       area = area_above s lawful number seen d now.written.elsewhere new.fields new.area area;
     }

@@ -46,6 +46,20 @@ module _ (s : Shape) (c d : List ℕ) where
   other_by_page number same (inl shut) = inl (λ is. shut (sym (gate_by_page (header_page (number + 1)) c d same) ∙ is))
   other_by_page number same (inr older) = inr (older.0, open_by_page (header_page (number + 1)) older.0 same older.1, older.2)
 
+  -- the newest root stays with both header pages
+  pub newest_by_pages : (r : RootFields) → page_of (header_page r.number) d ≡ page_of (header_page r.number) c → page_of (header_page (r.number + 1)) d ≡ page_of (header_page (r.number + 1)) c → IsNewest s c r → IsNewest s d r
+  newest_by_pages r own other newest = record { opens = open_by_page (header_page r.number) r own newest.opens; other = other_by_page r.number other newest.other }
+
+  -- the shape stays with the first bytes of both header pages
+  pub shape_by_fronts : (K : ℕ) → length d ≡ length c → take 64 (page_of 0 d) ≡ take 64 (page_of 0 c) → take 64 (page_of 1 d) ≡ take 64 (page_of 1 c) → HasShape K c s → HasShape K d s
+  shape_by_fronts K long zeroth first shape = record {
+    lawful = shape.lawful;
+    attributes = shape.attributes;
+    first = zeroth ∙ shape.first;
+    second = first ∙ shape.second;
+    long = omega (arith, shape.long, long);
+  }
+
   -- the old root is kept
   pub kept_by_pages : (number : ℕ) (old : Option WholeRoot) → OtherRootStays s number c d → ComesNext old number → KeepsOld s number old c → KeepsOld s number old d
   kept_by_pages number None stays comes shut = λ is. shut (sym (gate_by_page (header_page (number + 1)) c d stays.header) ∙ is)
@@ -100,16 +114,10 @@ module _ (s : Shape) (c d : List ℕ) (stays : RootPagesStay s c d) where
   own_header number = stays.headers (header_page number) (header_two number)
 
   pub shape_kept : (K : ℕ) → HasShape K c s → HasShape K d s
-  shape_kept K shape = record {
-    lawful = shape.lawful;
-    attributes = shape.attributes;
-    first = ap (take 64) (stays.headers 0 (omega arith)) ∙ shape.first;
-    second = ap (take 64) (stays.headers 1 (omega arith)) ∙ shape.second;
-    long = omega (arith, shape.long, stays.same_length);
-  }
+  shape_kept K shape = shape_by_fronts s c d K stays.same_length (ap (take 64) (stays.headers 0 (omega arith))) (ap (take 64) (stays.headers 1 (omega arith))) shape
 
   pub newest_kept : (r : RootFields) → IsNewest s c r → IsNewest s d r
-  newest_kept r newest = record { opens = open_by_page s c d (header_page r.number) r (own_header r.number) newest.opens; other = other_by_page s c d r.number (other_root r.number).header newest.other }
+  newest_kept r newest = newest_by_pages s c d r (own_header r.number) (own_header (r.number + 1)) newest
 
   pub area_kept : (r : RootFields) (a : Area) → HasArea s c r a → HasArea s d r a
   area_kept r a area = area_by_pages s c d r a (λ i lt. stays.areas (header_page r.number) i (header_two r.number) lt) area
@@ -158,12 +166,22 @@ module _ (s : Shape) (lawful : IsTrue (is_shape s)) where
   pub stays_past : (at n : ℕ) (c d : List ℕ) → gate_page s 0 * 4096 ≤ at → Agrees at n c d → RootPagesStay s c d
   stays_past at n c d high a = stays_behind ((at, n) ∷ []) c d (λ i low. (inl (omega (arith, low, high)), tt)) (outside_one at n c d a)
 
+  -- a data page lies there
+  data_high : (page : ℕ) → page < s.pages → gate_page s 0 * 4096 ≤ data_page s page * 4096
+  data_high page lt = omega (arith, (data-page-lies s page lt).value, (gate-page s).0)
+
   -- as a data page
   pub stays_at_data : (page : ℕ) (c d : List ℕ) → page < s.pages → AgreesOutside (page_range (data_page s page) ∷ []) c d → RootPagesStay s c d
-  stays_at_data page c d lt a = stays_behind _ c d (λ i low. (inl (omega (arith, low, data_high page lt)), tt)) a
-    where
-      data_high : (page : ℕ) → page < s.pages → gate_page s 0 * 4096 ≤ data_page s page * 4096
-      data_high page lt = omega (arith, (data-page-lies s page lt).value, (gate-page s).0)
+  stays_at_data page c d lt a = stays_behind (page_range (data_page s page) ∷ []) c d (λ i low. (inl (omega (arith, low, data_high page lt)), tt)) a
+
+  -- as bytes from a data page on
+  pub stays_from_data : (page at n : ℕ) (c d : List ℕ) → page < s.pages → data_page s page * 4096 ≤ at → Agrees at n c d → RootPagesStay s c d
+  stays_from_data page at n c d lt high a = stays_past at n c d (omega (arith, high, data_high page lt)) a
+
+  -- as gates of slots
+  pub stays_at_gates : (half slot n : ℕ) (c d : List ℕ) → half < 2 → Agrees (slot_gate_at s half slot) n c d → RootPagesStay s c d
+  unfolding slot_gate_at
+  stays_at_gates half slot n c d two a = let g = gate-page-lies s half lawful two in stays_past (slot_gate_at s half slot) n c d (omega (arith, g.behind)) a
 
   -- as a slot with its gate
   pub stays_at_slot : (half slot : ℕ) (c d : List ℕ) → half < 2 → slot < s.slots → AgreesOutside (slot_ranges s half slot) c d → RootPagesStay s c d

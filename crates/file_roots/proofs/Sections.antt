@@ -1,12 +1,12 @@
 -- What sections of calls leave of the roots of a disk.
 use Rattle.std.proofs.Common.{◌≡◌, ◌≢◌, inl, inr, ℕ, List, IsTrue, sym, ap, subst, ◌∙◌, arith}
-use Rattle.std.specs.Prelude.{Option, Some}
+use Rattle.std.specs.Prelude.{Option, Some, None}
 use Rattle.std.proofs.lemmas.Bool.{cases_eq}
 use Rattle.grid_types.specs.declared.shape.Shape.{Shape}
 use Rattle.grid_types.specs.Shapes.{is_shape, header_page}
 use Rattle.grid_model.specs.Spellings.{RootFields, root_bytes}
 use Rattle.grid_model.specs.Images.{header_gate, root_fields}
-use Rattle.grid_model.specs.Roots.{WholeRoot, AreRootFields, HasAreaOf, IsReady, IsReplaceable}
+use Rattle.grid_model.specs.Roots.{WholeRoot, AreRootFields, HasAreaOf, IsReady, IsReplaceable, ShowsOld, HasOlderOrTried, ComesNext}
 use Rattle.disk_trait.specs.declared.disk.Disk.{Ghosts}
 use Rattle.disk_trait.specs.Calls.{OnlyReads, Changes, IsSynced}
 use Rattle.disk_trait.specs.Disk.{Stays}
@@ -18,7 +18,7 @@ use Rattle.file_roots.specs.Places.{GateAlone, FieldsAlone, HeaderAlone, AreaAlo
 use Rattle.file_roots.specs.Writing.{HasNewFields, HeaderStep, MayBeWritten, Awaits, StaysReplaceable, StaysReady}
 use Rattle.file_roots.proofs.Headers.{fields_stay}
 use Rattle.file_roots.proofs.Alone.{fields_in_header, gate_in_header, header_in_root, area_in_root, ready_area}
-use Rattle.file_roots.proofs.Exchange.{ready_is_replaceable, under_gate, ready_once_closed, while_closing, tried_there, header_step_is_replaceable}
+use Rattle.file_roots.proofs.Exchange.{next_may_be_written, ready_is_replaceable, under_gate, ready_once_closed, while_closing, tried_there, header_step_is_replaceable}
 
 -- a change that is shown where a disk tells its content alone
 pub changes_if_told : {D : Type 0} {g : Ghosts D} {a b : D} {step other : List ℕ → List ℕ → Type 0} → Changes g step a b → (IsTrue (g.honest a) → Changes g other a b) → Changes g other a b
@@ -57,6 +57,20 @@ may_again {g = g} s number old tried {a} law w = record {
   each = λ i now. ready_is_replaceable s number old tried i (w.each i now);
   under_open = λ is i now. absurd ((w.each (g.seen a) (law w.honest)).closed is);
 }
+
+-- where all is on the disk, and the old root is the newest there or there is none, the next may be written
+pub may_be_next : {D : Type 0} {g : Ghosts D} (s : Shape) (number : ℕ) (old : Option WholeRoot) {a : D} → IsTrue (g.honest a) → IsSynced g a → ComesNext old number → ShowsOld s old (g.seen a) → MayBeWritten g s number old None a
+may_be_next {g = g} s number old {a} honest synced comes shows =
+    let here : IsReplaceable s number old None (g.seen a) = next_may_be_written s number old (g.seen a) comes shows in
+    record {
+      honest = honest;
+      next = comes;
+      each = λ i now. subst (IsReplaceable s number old None) (sym (synced.only honest i now)) here;
+      under_open = λ is i now. elim here.under [
+        | inl shut ↦ absurd (shut is)
+        | inr has ↦ subst (HasOlderOrTried s (header_page number) old None) (sym (synced.only honest i now)) has
+      ];
+    }
 
 -- a call that only reads leaves a root that may be written so
 pub may_still : {D : Type 0} {g : Ghosts D} (s : Shape) (number : ℕ) (old tried : Option WholeRoot) {a b : D} → OnlyReads g a b → MayBeWritten g s number old tried a → MayBeWritten g s number old tried b

@@ -27,7 +27,7 @@ pub record TakesSteps {T E : Type 0} (count before now : ℕ) (result : Result T
   pub all : OnOk result (now ≡ before + count)
 
 -- the first n pages that the newest root is read from are good: the two header pages have a newest root, and the others are spelled as the first pages of its table area
-pub record IsGoodUpTo (s : Shape) (image : List ℕ) (n : ℕ) : Type 0 where
+pub record AreRootPagesGood (s : Shape) (image : List ℕ) (n : ℕ) : Type 0 where
   pub root : RootFields
   pub newest : IsNewest s image root
   pub area : Area
@@ -40,4 +40,4 @@ pub record TellsNewest {K : ℕ} (s : Shape) (image : List ℕ) (before now : �
   pub undamaged : (w : WholeRoot) → IsNewestWhole s w image → (p : ℕ) → IsErrOf result (Damaged p) → ⊥
   pub damaged : (p : ℕ) → IsErrOf result (Damaged p) → IsRootDamage s image p
   pub no_memory : IsErrOf result NoMemory → (r : RootFields) × IsNewest s image r
-  pub good_before : (n : ℕ) → now ≡ before + n + 1 → 2 ≤ n → OnErr result (IsGoodUpTo s image n)
+  pub good_before : (n : ℕ) → now ≡ before + n + 1 → 2 ≤ n → OnErr result (AreRootPagesGood s image n)

@@ -19,6 +19,7 @@ pub use header::write_header;
 pub use laws::{area_law, damage_law, replacing_law, uniqueness_law};
 pub use reading::read_newest;
 pub use replacing::write_root;
+pub use root::header_of;
 
 #[cfg(test)]
 mod tests;

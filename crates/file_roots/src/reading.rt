@@ -13,7 +13,7 @@ ghost use Rattle.grid_model.specs.Roots.{WholeRoot, AreRootFields, IsNewestWhole
 ghost use Rattle.linear_scales.specs.Roots.{whole_of, IsRoot};
 ghost use Rattle.file_roots.specs.Damage.{HasAreaUpTo, IsRootDamage};
 ghost use Rattle.file_roots.specs.Gathering.{HasRoom, HasGathered};
-ghost use Rattle.file_roots.specs.Reading.{Gathers, IsGoodUpTo, TellsNewest, TakesSteps};
+ghost use Rattle.file_roots.specs.Reading.{Gathers, AreRootPagesGood, TellsNewest, TakesSteps};
 ghost use Rattle.file_roots.specs.Refusals.{MayRefuseChoice, MayRefuseReading};
 
 use crate::choosing::choose;
@@ -131,7 +131,7 @@ fn read_root<const K: usize, D: Disk, L: Ledger>(
         → (n : ℕ)
         → steps.new ≡ steps.old + n + 1
         → 2 ≤ n
-        → OnErr result (IsGoodUpTo geometry.now.shape (D.seen disk.old) n) }
+        → OnErr result (AreRootPagesGood geometry.now.shape (D.seen disk.old) n) }
     ensures lawful { IfOk result (λ root. IsRoot geometry.now.shape root) }
     ensures limits { IfOk result (λ root.
         limits_of root.scales ≡ replicate K geometry.now.shape.boundaries) }

@@ -12,7 +12,7 @@ ghost use Rattle.file_roots.specs.Writing.{MayBeWritten, Awaits, StaysReplaceabl
 
 use crate::area_pages::write_area;
 use crate::header::write_header;
-use crate::root::fields;
+use crate::root::header_of;
 use disk_trait::{Disk, DiskFailed};
 use grid_types::Geometry;
 use linear_scales::Root;
@@ -44,5 +44,5 @@ pub fn write_root<const K: usize, D: Disk>(
     ensures cause { HasCause (D.write_count disk.old) (D.write_count disk.new) result }
 {
     write_area(disk, geometry, root)?;
-    write_header(disk, geometry, &fields(root))
+    write_header(disk, geometry, &header_of(geometry, root))
 }

@@ -2,10 +2,11 @@
 ghost use Rattle.std.specs.Prelude.{◌≡◌, ◌<◌, ◌≤◌, ◌^◌, length};
 ghost use Rattle.grid_types.specs.declared.sizes.TheConstants.{MOST_ATTRIBUTES};
 ghost use Rattle.grid_model.specs.Lawful.{pages_named};
-ghost use Rattle.linear_scales.specs.Roots.{root_fields_of};
+ghost use Rattle.linear_scales.specs.Roots.{root_fields_of, IsRoot};
 ghost use Rattle.root_pages.specs.Fields.{model_fields};
 
 use arrayvec::ArrayVec;
+use grid_types::Geometry;
 use linear_scales::{NOWHERE, Root};
 use root_pages::RootHeader;
 
@@ -23,8 +24,8 @@ pub fn count_named(table: &[u32]) -> usize
     count
 }
 
-/// The fields of a root as its header page has them.
-pub fn fields<const K: usize>(root: &Root<K>) -> RootHeader
+/// The fields of a root, whose lists are short enough.
+fn fields<const K: usize>(root: &Root<K>) -> RootHeader
     requires few { K ≤ MOST_ATTRIBUTES }
     requires count { length root.now.scales ≡ K }
     requires parts { length root.now.parts.items < 2 ^ 32 }
@@ -44,4 +45,13 @@ pub fn fields<const K: usize>(root: &Root<K>) -> RootHeader
         parts: root.parts.list().len() as u32,
         buckets: count_named(root.table.list()) as u32,
     }
+}
+
+/// The fields of a root as its header page has them. It takes no memory.
+pub fn header_of<const K: usize>(geometry: &Geometry, root: &Root<K>) -> RootHeader
+    requires attributes { geometry.now.shape.k ≡ K }
+    requires root { IsRoot geometry.now.shape root.now }
+    ensures { model_fields result ≡ root_fields_of root.now }
+{
+    fields(root)
 }

@@ -111,25 +111,29 @@ fn put_table<const N: usize>(disk: &mut Memory, index: u32, number: usize, data_
     put_page(disk, 2 + index, &page)
 }
 
-/// Writes header page 0, open over root 0 with so many buckets.
-fn put_header(disk: &mut Memory, buckets: u32) -> bool
-    requires size { SMALL * PAGE_BYTES ≤ extent_of disk.old }
-    ensures size { extent_of disk.new ≡ extent_of disk.old }
-{
+/// The fields of a root with so many buckets.
+fn header(number: u64, session: u64, buckets: u32) -> RootHeader {
     let mut boundaries = ArrayVec::new();
     boundaries.push(501);
     boundaries.push(0);
-    let fields = RootHeader {
-        number: 0,
-        session: 3,
+    RootHeader {
+        number,
+        session,
         front: 7,
         records: 2,
         boundaries,
         parts: 1,
         buckets,
-    };
+    }
+}
+
+/// Writes header page 0, open over root 0 with so many buckets.
+fn put_header(disk: &mut Memory, buckets: u32) -> bool
+    requires size { SMALL * PAGE_BYTES ≤ extent_of disk.old }
+    ensures size { extent_of disk.new ≡ extent_of disk.old }
+{
     let mut bytes = [0; 56];
-    encode_fields(&fields, &mut bytes);
+    encode_fields(&header(0, 3, buckets), &mut bytes);
     let mut page = [0; PAGE_BYTES];
     page[64] = 1;
     page[72..128].copy_from_slice(&bytes);
@@ -331,6 +335,7 @@ struct Tried {
     large_damage: bool,
     crashes: bool,
     retries: bool,
+    headers: bool,
 }
 
 fn try_all<L: Ledger>(alloc: Global, blank: Blank) -> Result<Tried, AllocError>
@@ -347,6 +352,7 @@ fn try_all<L: Ledger>(alloc: Global, blank: Blank) -> Result<Tried, AllocError>
         large_damage: damage::is_named_in_a_large_file(alloc, &mut steps)?,
         crashes: crashes::leaves_a_root(alloc, &mut steps)?,
         retries: crashes::may_be_tried_again(alloc, &mut steps)?,
+        headers: roots::writes_headers_again(alloc, &mut steps)?,
     })
 }
 
@@ -355,6 +361,7 @@ fn roots_are_written_read_and_kept(rt: HostRuntime) -> Result<(), Fail> {
     area_law();
     damage_law();
     replacing_law();
+    uniqueness_law();
     let tried = try_all::<Brand>(rt.alloc(), Blank::new(1))?;
     assert!(rt; tried.turns);
     assert!(rt; tried.two_pages);
@@ -363,5 +370,6 @@ fn roots_are_written_read_and_kept(rt: HostRuntime) -> Result<(), Fail> {
     assert!(rt; tried.large_damage);
     assert!(rt; tried.crashes);
     assert!(rt; tried.retries);
+    assert!(rt; tried.headers);
     Ok(())
 }

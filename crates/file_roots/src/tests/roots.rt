@@ -36,3 +36,28 @@ pub fn tells_faults<L: Ledger>(alloc: Global, steps: &mut Steps<L>) -> Result<bo
     }
     Ok(all)
 }
+
+/// Whether the header page of root 1, written with a failure at each of its calls, leaves root 0 or root 1 as the newest,
+/// and once it is closed again is written.
+pub fn writes_headers_again<L: Ledger>(
+    alloc: Global,
+    steps: &mut Steps<L>,
+) -> Result<bool, AllocError> {
+    let geometry = small();
+    let mut all = true;
+    for call in 1..5 {
+        let mut disk = small_file(alloc)?;
+        let Some(root) = early(alloc, &mut disk, &geometry, steps) else {
+            return Ok(false);
+        };
+        let root = next(root, &geometry);
+        all &= write_area(&mut disk, &geometry, &root).is_ok();
+        disk.fail(call)?;
+        all &= write_header(&mut disk, &geometry, &header(1, 4, 1)).is_err();
+        all &= told(alloc, &mut disk, &geometry, steps).number <= 1;
+        all &= close_root(&mut disk, &geometry, 1, steps).is_ok();
+        all &= write_header(&mut disk, &geometry, &header(1, 4, 1)).is_ok();
+        all &= told(alloc, &mut disk, &geometry, steps).number == 1;
+    }
+    Ok(all)
+}

@@ -1,28 +1,19 @@
-use Rattle.std.proofs.Common.{◌≢◌, ◌∙◌, IsTrue, subst, rules, arith}
+use Rattle.std.proofs.Common.{◌≢◌, ◌∙◌, IsTrue, subst}
 use Rattle.std.specs.Prelude.{Some}
 use Rattle.std.proofs.lemmas.Result.{on_ok_weaker}
 use Rattle.grid_types.specs.Shapes.{header_page}
 use Rattle.grid_model.specs.Images.{header_gate, IsOtherOlder}
 use Rattle.linear_scales.specs.Roots.{root_fields_of, whole_of}
-use Rattle.root_pages.proofs.Roots.{few_attributes}
 use Rattle.disk_trait.specs.Calls.{Changes}
 use Rattle.disk_trait.specs.Moments.{Always}
 use Rattle.disk_trait.proofs.Calls.{changes_wider}
 use Rattle.disk_trait.proofs.Moments.{joined, weakened}
 use Rattle.file_roots.specs.Writing.{HasNewFields, IsHeaderWritten, HeaderStep}
-use Rattle.file_roots.proofs.Writing.{lengths}
 use Rattle.file_roots.proofs.Outcomes.{on_err}
-use Rattle.file_roots.proofs.Frames.{other_by_page}
-use Rattle.file_roots.proofs.Alone.{area_in_root, other_root_stays}
+use Rattle.file_roots.proofs.Alone.{area_in_root, older_alone}
 use Rattle.file_roots.proofs.Exchange.{ready_is_replaceable, newest_once_written}
 use Rattle.file_roots.proofs.Sections.{may_again, replaceable_at_header, again_header, root_changes}
 use Rattle.file_roots.proofs.replacing.write_root.Goals as goal
-
-pub fields-requires : goal.fields-requires
-fields-requires g c =
-    let l = lengths c.args.geometry.now.shape c.args.root.now c.args.geometry.now.lawful c.requires.attributes c.requires.root in
-    let few = few_attributes c.args.geometry.now.shape g.row.K c.args.geometry.now.lawful c.requires.attributes in
-    (search rules, (few, (l.scales, (omega (arith, l.parts), omega (arith, l.numbers)))))
 
 pub returns-in_err-write_area-clause-replaceable : goal.returns-in_err-write_area-clause-replaceable
 returns-in_err-write_area-clause-replaceable g c = λ old w.
@@ -42,7 +33,7 @@ returns-clause-replaceable g c = λ old w.
     let first = c.in_ok-write_area.ensures in
     let mid = c.write_area.new.disk in
     let end = c.write_header.new.disk in
-    let step = subst (λ f. Changes g.D.Disk (HeaderStep f (g.D.Disk.seen mid)) mid end) c.fields.ensures c.write_header.ensures.changes in
+    let step = subst (λ f. Changes g.D.Disk (HeaderStep f (g.D.Disk.seen mid)) mid end) c.header_of.ensures c.write_header.ensures.changes in
     joined g.D.Disk.moment g.D.Disk.left_since c.args.disk.now mid end _ _ _ (first.ready old w)
     (replaceable_at_header s c.args.geometry.now.lawful new c.requires.root.fields old (g.met.D.Disk.seen_now mid) step (first.awaits old w) (first.written w.honest))
     (λ i ready. ready_is_replaceable s new.fields.number old (Some new) i ready) (λ i is. is)
@@ -54,8 +45,8 @@ returns-clause-again g c = λ old w.
     let first = c.in_ok-write_area.ensures in
     let mid = c.write_area.new.disk in
     let end = c.write_header.new.disk in
-    let step = subst (λ f. Changes g.D.Disk (HeaderStep f (g.D.Disk.seen mid)) mid end) c.fields.ensures c.write_header.ensures.changes in
-    let fields_first = subst (λ f. IsTrue (g.D.Disk.honest mid) → header_gate (g.D.Disk.seen end) (header_page f.number) ≢ header_gate (g.D.Disk.seen mid) (header_page f.number) → Always (g.D.Disk.may_leave end) (HasNewFields f (g.D.Disk.seen mid))) c.fields.ensures c.write_header.ensures.fields_first in
+    let step = subst (λ f. Changes g.D.Disk (HeaderStep f (g.D.Disk.seen mid)) mid end) c.header_of.ensures c.write_header.ensures.changes in
+    let fields_first = subst (λ f. IsTrue (g.D.Disk.honest mid) → header_gate (g.D.Disk.seen end) (header_page f.number) ≢ header_gate (g.D.Disk.seen mid) (header_page f.number) → Always (g.D.Disk.may_leave end) (HasNewFields f (g.D.Disk.seen mid))) c.header_of.ensures c.write_header.ensures.fields_first in
     on_err c.write_header.result (again_header s c.args.geometry.now.lawful new c.requires.root.fields old (g.met.D.Disk.seen_now mid) step (first.awaits old w) (first.written w.honest) (fields_first (first.changes.honest ∙ w.honest)))
 
 pub returns-clause-newest : goal.returns-clause-newest
@@ -68,11 +59,11 @@ returns-clause-newest g c = λ h other.
     let start = g.D.Disk.seen c.args.disk.now in
     let mid = g.D.Disk.seen c.write_area.new.disk in
     let end = g.D.Disk.seen c.write_header.new.disk in
-    let still : IsOtherOlder s number mid = other_by_page s start mid number (other_root_stays s lawful number start mid (area_in_root s number start mid (first.changes.outside h))).header other in
-    on_ok_weaker _ (λ w. newest_once_written s lawful new c.requires.root.fields mid end (first.written h) still (subst (λ f. IsHeaderWritten f mid end) c.fields.ensures w)) (c.write_header.ensures.written (first.changes.honest ∙ h))
+    let still : IsOtherOlder s number mid = older_alone s lawful number start mid (area_in_root s number start mid (first.changes.outside h)) other in
+    on_ok_weaker _ (λ w. newest_once_written s lawful new c.requires.root.fields mid end (first.written h) still (subst (λ f. IsHeaderWritten f mid end) c.header_of.ensures w)) (c.write_header.ensures.written (first.changes.honest ∙ h))
 
 pub returns-clause-changes : goal.returns-clause-changes
 returns-clause-changes g c =
     let mid = c.write_area.new.disk in
-    let step = subst (λ f. Changes g.D.Disk (HeaderStep f (g.D.Disk.seen mid)) mid c.write_header.new.disk) c.fields.ensures c.write_header.ensures.changes in
+    let step = subst (λ f. Changes g.D.Disk (HeaderStep f (g.D.Disk.seen mid)) mid c.write_header.new.disk) c.header_of.ensures c.write_header.ensures.changes in
     root_changes c.args.geometry.now.shape (root_fields_of c.args.root.now) (g.met.D.Disk.seen_now mid) c.in_ok-write_area.ensures.changes step
