@@ -28,7 +28,8 @@ fn file_to_run(arguments: Args) -> Option<String>
         → IsRun (behind_first (into_iter_items arguments)) name → ⊥) }
 {
     let mut arguments = arguments;
-    if arguments.len() != 3 {
+    let others = arguments.len() != 3;
+    if others {
         return None;
     }
     let Some(_program) = arguments.next() else {

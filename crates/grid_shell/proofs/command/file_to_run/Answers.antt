@@ -9,7 +9,7 @@ use Rattle.grid_shell.proofs.command.file_to_run.Goals as goal
 
 pub returns-then-is_file_name-clause-found : goal.returns-then-is_file_name-clause-found
 returns-then-is_file_name-clause-found c =
-    let three = three_of (into_iter_items c.args.arguments) _ _ _ _ _ _ c.in-Some.ensures.items c.in-Some-next.ensures.items c.in-Some-next-2.ensures.items (sym (len_is c.args.arguments) ∙ sym c.len.ensures ∙ c.if-len-ne3.false) in
+    let three = three_of (into_iter_items c.args.arguments) _ _ _ _ _ _ c.in-Some.ensures.items c.in-Some-next.ensures.items c.in-Some-next-2.ensures.items (sym (len_is c.args.arguments) ∙ sym c.len-others.ensures ∙ c.if-others.false) in
     let named = (slice_eq-Decides Decides-eqb _ _ _ c.eq.ensures).0 c.if-eq.true in
     let is = c.as_str.ensures.value in
     let also = c.as_str-then-eq.ensures.value in record {
