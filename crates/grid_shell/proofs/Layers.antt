@@ -1,5 +1,5 @@
 -- A run at each layer: of lines in hand, of the input over a disk, and of a file in a bay.
-use Rattle.std.proofs.Common.{◌≡◌, ◌≢◌, ◌∙◌, ◌++◌, inl, inr, ℕ, List, IsTrue, Result, Ok, refl, sym, ap, subst, arith}
+use Rattle.std.proofs.Common.{◌≡◌, ◌≢◌, ◌∙◌, ◌++◌, ◌⊎◌, inl, inr, ℕ, List, IsTrue, Result, Ok, refl, sym, ap, subst, arith}
 use Rattle.grid_types.specs.declared.request.Line.{Line}
 use Rattle.grid_model.specs.Script.{lines}
 use Rattle.grid_script.specs.Taken.{IsScript, IsFault}
@@ -27,6 +27,11 @@ names_line Device h = absurd (omega (arith, h))
 names_line Memory h = absurd (omega (arith, h))
 names_line Refused h = absurd (omega (arith, h))
 names_line Unsure h = absurd (omega (arith, h))
+
+-- an ending for want of memory, or for its words, names none
+pub names_nothing : {A B : Type 0} (left : List ℕ) (e : Ending) → ((e ≡ Memory) × A) ⊎ ((e ≡ BadWords) × B) → NamesFault left e
+names_nothing left e (inl memory) n is = absurd (let six = ap status_of (sym memory.0 ∙ is) in omega (arith, six))
+names_nothing left e (inr words) n is = absurd (let two = ap status_of (sym words.0 ∙ is) in omega (arith, two))
 
 -- what was told of an ending was told of its status
 pub told_ending : (left : List ℕ) (e : Ending) (status : ℕ) (had has : List ℕ) → status ≡ status_of e → NamesFault left e → has ≡ had ++ error_text (status_of e) (named_line e) → IsTold (IsFault 2 left) status had has

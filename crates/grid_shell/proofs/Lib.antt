@@ -1,4 +1,5 @@
 pub mod Adding
+pub mod Arguments
 pub mod Buckets
 pub mod Clients
 pub mod Counting
@@ -7,7 +8,6 @@ pub mod Fronts
 pub mod InBay
 pub mod Layers
 pub mod Lines
-pub mod Pairs
 pub mod Pieces
 pub mod Replies
 pub mod Sequences

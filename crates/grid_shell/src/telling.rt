@@ -1,5 +1,6 @@
 //! What the error sink is told.
 ghost use Rattle.std.specs.Prelude.{◌≡◌, ◌≤◌, ◌⊎◌, ◌++◌, IsTrue, OnOk};
+ghost use Rattle.std.specs.Process.{exit_status};
 ghost use Rattle.disk_trait.specs.Causes.{HasCause, Rose};
 ghost use Rattle.grid_shell.specs.Statuses.{IsStatus, error_text};
 ghost use Rattle.grid_shell.specs.Endings.{status_of, named_line};
@@ -7,6 +8,7 @@ ghost use Rattle.grid_shell.specs.Endings.{status_of, named_line};
 use crate::ending::Ending;
 use disk_trait::{Sink, SinkFailed, put_all};
 use itoa::Buffer;
+use std::process::ExitCode;
 
 /// Tells the line at which a script has its fault.
 fn tell_line<E: Sink>(err: &mut E, line: u64) -> Result<(), SinkFailed>
@@ -38,15 +40,15 @@ pub fn tell<E: Sink>(err: &mut E, ending: Ending) -> Result<(), SinkFailed>
     }
 }
 
-/// Tells an ending, and answers its status. Where the error sink fails the status is the same.
-pub fn finish<E: Sink>(err: &mut E, ending: Ending) -> u8
-    ensures status { result ≡ status_of ending }
-    ensures known { IsStatus result }
+/// Tells an ending, and answers the code of its status. Where the error sink fails that is the same.
+pub fn finish<E: Sink>(err: &mut E, ending: Ending) -> ExitCode
+    ensures status { exit_status result ≡ status_of ending }
+    ensures known { IsStatus (exit_status result) }
     ensures told { IsTrue (E.tells err.old)
         → Rose (E.fault_count err.old) (E.fault_count err.new)
         ⊎ (E.received err.new
         ≡ E.received err.old ++ error_text (status_of ending) (named_line ending)) }
 {
     let _ = tell(err, ending);
-    ending.status()
+    ExitCode::from(ending.status())
 }

@@ -9,7 +9,7 @@ use Rattle.seat_lock.specs.Parts.{Has, Meets, StaysSafe, Keeps, Forked, Joined}
 use Rattle.seat_lock.specs.Laws.{Laws}
 use Rattle.seat_lock.specs.declared.counter.Counter.{Counter}
 use Rattle.seat_lock.specs.declared.counter.Ask.{Ask}
-use Rattle.seat_lock.specs.declared.counter.Ask.TheVariants.{Add, Reach}
+use Rattle.seat_lock.specs.declared.counter.Ask.TheVariants.{Add, Reach, Share}
 use Rattle.seat_lock.specs.Counters.{place_count, told_count, appended_by, enabled_in, with_count_told, counter_after, without_place, CountsHistory, CounterDoes, CounterForks}
 
 -- one part follows another where it is no smaller
@@ -62,6 +62,7 @@ event_keeps : (s : Counter) (seat from x : ℕ) (history : List ℕ) (parts : Li
     → CounterKeeps seat from s (counter_after s seat event) (history ++ appended_by s seat event) parts
 event_keeps s seat from x history parts Add safe e = told_keeps s seat (s.count + 1) from x history (seat ∷ []) parts safe e (let h = safe.counted in omega (arith, length-append history (seat ∷ [])))
 event_keeps s seat from x history parts (Reach n) safe e = told_keeps s seat s.count from x history [] parts safe e (safe.counted ∙ ap (λ (h : List ℕ). from + length h) (sym (append-nil history)))
+event_keeps s seat from x history parts (Share n) safe e = told_keeps s seat s.count from x history [] parts safe e (safe.counted ∙ ap (λ (h : List ℕ). from + length h) (sym (append-nil history)))
 
 -- an event keeps the counter safe
 step_keeps : (s t : Counter) (seat from : ℕ) (history : List ℕ) (parts : List (Option ℕ)) (event : Ask) (reply : ℕ) → CounterMeets s seat from history parts → CounterDoes s seat event t reply

@@ -1,9 +1,9 @@
 -- A counter with places, the least that a lock can hold.
-use Rattle.std.specs.Prelude.{◌≡◌, ◌≢◌, ℕ, ◌+◌, ◌<◌, Bool, ltb, leb, List, [], ◌∷◌, length, Option, Some, None, Result, Ok, Err, slice_set, slice_index_or}
-use Rattle.seat_lock.specs.Parts.{Has}
+use Rattle.std.specs.Prelude.{◌≡◌, ◌≢◌, ℕ, ◌+◌, ◌<◌, Bool, ltb, leb, ◌==◌, List, [], ◌∷◌, length, Option, Some, None, Result, Ok, Err, slice_set, slice_index_or}
+use Rattle.seat_lock.specs.Parts.{Has, how_many}
 use Rattle.seat_lock.specs.declared.counter.Counter.{Counter}
 use Rattle.seat_lock.specs.declared.counter.Ask.{Ask}
-use Rattle.seat_lock.specs.declared.counter.Ask.TheVariants.{Add, Reach}
+use Rattle.seat_lock.specs.declared.counter.Ask.TheVariants.{Add, Reach, Share}
 
 -- the number of places
 abbrev pub place_count : Counter → ℕ
@@ -17,11 +17,13 @@ told_count s p = slice_index_or s.parts p None
 abbrev pub appended_by : Counter → ℕ → Ask → List ℕ
 appended_by s seat Add = seat ∷ []
 appended_by s seat (Reach n) = []
+appended_by s seat (Share n) = []
 
--- an addition is enabled below the limit, and to reach a number once the count is that high
+-- an addition is enabled below the limit, to reach a number once the count is that high, and to share by a number while so many places are out
 abbrev pub enabled_in : Counter → Ask → Bool
 enabled_in s Add = ltb s.count s.limit
 enabled_in s (Reach n) = leb n s.count
+enabled_in s (Share n) = n == how_many (told_count s) (place_count s)
 
 -- the counter with this count, which the seat was told
 abbrev pub with_count_told : Counter → ℕ → ℕ → Counter
@@ -31,6 +33,7 @@ with_count_told s seat n = record { count = n; limit = s.limit; parts = slice_se
 abbrev pub counter_after : Counter → ℕ → Ask → Counter
 counter_after s seat Add = with_count_told s seat (s.count + 1)
 counter_after s seat (Reach n) = with_count_told s seat s.count
+counter_after s seat (Share n) = with_count_told s seat s.count
 
 -- the counter without that place
 abbrev pub without_place : Counter → ℕ → Counter

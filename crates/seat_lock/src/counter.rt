@@ -23,6 +23,8 @@ pub enum Ask {
     Add,
     /// To wait until the count is this high.
     Reach(u64),
+    /// To wait until so many places are out.
+    Share(u32),
 }
 
 impl Counter {
@@ -100,6 +102,7 @@ impl Stepped for Counter {
         match event {
             Ask::Add => self.count < self.limit,
             Ask::Reach(n) => *n <= self.count,
+            Ask::Share(n) => *n == places_out(self),
         }
     }
 

@@ -8,7 +8,7 @@ use crate::{Chair, SeatLock};
 use std::alloc::Global;
 use std::sync::Wait;
 use std::test::Fail;
-use std::thread::{Threads, for_each_mut, join_mut};
+use std::thread::{Threads, for_each_mut, join, join_mut, yield_now};
 
 // Each chair adds, in a thread of its own.
 fn add_each<R: Threads + Wait + Sync>(
@@ -150,5 +150,110 @@ fn seats_wait_for_each_other(rt: HostRuntime) -> Result<(), Fail> {
         panic!(&rt; "two places are out")
     };
     assert!(&rt; refused.out == 2);
+    Ok(())
+}
+
+// Waits until a seat waits for a change, and answers the word that it looks at.
+fn see_waiting<R: Wait>(rt: &R, lock: &SeatLock<Counter>) -> u64 {
+    for _ in rt.forever() {
+        let word = lock.table.shared.peek(2);
+        if word % 2 == 1 {
+            return word;
+        }
+        yield_now();
+    }
+    unreachable!()
+}
+
+fn wait_for<R: Wait>(rt: &R, lock: &SeatLock<Counter>, chair: Chair<u32, u64>, event: Ask)
+    requires { IsSeated (table_of lock.now) chair }
+{
+    let mut chair = chair;
+    lock.act(rt, &mut chair, event);
+}
+
+// Whether the word is another by now. Where it is not, an addition wakes the seat that waits.
+fn is_other<R: Wait>(rt: &R, lock: &SeatLock<Counter>, chair: Chair<u32, u64>, word: u64) -> bool
+    requires { IsSeated (table_of lock.now) chair }
+{
+    let changed = lock.table.shared.peek(2) != word;
+    if !changed {
+        wait_for(rt, lock, chair, Ask::Add);
+    }
+    changed
+}
+
+// While a seat waits, joins the other one or, where there is none, splits. Whether that changes the word that it looks at.
+fn wakes<R: Wait>(
+    rt: &R,
+    lock: &SeatLock<Counter>,
+    chair: Chair<u32, u64>,
+    other: Option<Chair<u32, u64>>,
+) -> bool
+    requires chair { IsSeated (table_of lock.now) chair }
+    requires other { IfSome other (IsSeated (table_of lock.now)) }
+{
+    let mut chair = chair;
+    let word = see_waiting(rt, lock);
+    if let Some(other) = other {
+        lock.join(rt, &mut chair, other);
+        return is_other(rt, lock, chair, word);
+    }
+    let Ok(_) = lock.split(rt, &mut chair) else {
+        return false;
+    };
+    is_other(rt, lock, chair, word)
+}
+
+// One seat waits until this number of places is out, and a second joins the third or splits. Whether that wakes it.
+fn is_woken<R: Threads + Wait + Sync>(
+    rt: &R,
+    lock: &SeatLock<Counter>,
+    one: Chair<u32, u64>,
+    places: u32,
+    two: Chair<u32, u64>,
+    three: Option<Chair<u32, u64>>,
+) -> bool
+    requires one { IsSeated (table_of lock.now) one }
+    requires two { IsSeated (table_of lock.now) two }
+    requires three { IfSome three (IsSeated (table_of lock.now)) }
+{
+    let wait = move ||
+        requires { IsSeated (table_of lock.now) one }
+    { wait_for(rt, lock, one, Ask::Share(places)) };
+    let wake = move || -> bool
+        requires two { IsSeated (table_of lock.now) two }
+        requires three { IfSome three (IsSeated (table_of lock.now)) }
+    { wakes(rt, lock, two, three) };
+    join(rt, wait, wake).1
+}
+
+// Three seats, of which the first waits for another number of places.
+fn is_noticed<R: Threads + Wait + Sync>(rt: &R, alloc: Global, joins: bool) -> bool {
+    let Ok((lock, mut one)) = SeatLock::open(alloc, Counter::new(1), PLACES) else {
+        return false;
+    };
+    let Ok(two) = lock.split(rt, &mut one) else {
+        return false;
+    };
+    if joins {
+        let Ok(three) = lock.split(rt, &mut one) else {
+            return false;
+        };
+        is_woken(rt, &lock, one, 2, two, Some(three))
+    } else {
+        is_woken(rt, &lock, one, 3, two, None)
+    }
+}
+
+#[test]
+fn a_join_wakes_a_seat_that_waits(rt: HostRuntime) -> Result<(), Fail> {
+    assert!(&rt; is_noticed(&rt, rt.alloc(), true));
+    Ok(())
+}
+
+#[test]
+fn a_split_wakes_a_seat_that_waits(rt: HostRuntime) -> Result<(), Fail> {
+    assert!(&rt; is_noticed(&rt, rt.alloc(), false));
     Ok(())
 }

@@ -1,12 +1,12 @@
 //! Calls that fail, of the bay and the streams, and of the disk.
 
-use super::{Case, NO_TEXT, PRINTED, SCRIPT, Shown, WELL, show};
+use super::{Case, NO_TEXT, PRINTED, RUN, SCRIPT, Shown, WELL, arguments, show};
 use crate::ending::Ending;
 use crate::run::run_grid;
 use crate::work::run_disk;
 use disk_memory::{ByteSink, ByteSource, Memory, MemoryBay};
 use disk_trait::Disk;
-use grid_types::Words;
+use std::process::ExitCode;
 use std::test::Fail;
 
 const DEVICE: &[u8] = b"grid: device\n";
@@ -72,9 +72,9 @@ fn what_is_told_changes_no_status(rt: HostRuntime) -> Result<(), Fail> {
                 ..WELL
             },
         )?;
-        assert!(rt; refused.status == 2 && refused.out.bytes() == NO_TEXT);
-        assert!(rt; faulty.status == 3 && faulty.out.bytes() == NO_TEXT);
-        assert!(rt; failed.status == 5 && failed.out.bytes() == NO_TEXT);
+        assert!(rt; refused.ends(2) && refused.out.bytes() == NO_TEXT);
+        assert!(rt; faulty.ends(3) && faulty.out.bytes() == NO_TEXT);
+        assert!(rt; failed.ends(5) && failed.out.bytes() == NO_TEXT);
     }
     Ok(())
 }
@@ -152,9 +152,7 @@ fn a_failed_call_of_the_disk_prints_nothing(rt: HostRuntime) -> Result<(), Fail>
 #[test]
 fn a_file_that_is_there_stays(rt: HostRuntime) -> Result<(), Fail> {
     let alloc = rt.alloc();
-    let mut words = Words::new(alloc);
-    words.add(alloc, "run")?;
-    words.add(alloc, "f")?;
+    let given = Ok(arguments(alloc, &RUN)?);
     let mut disk = Memory::new(alloc, 1)?;
     let written = disk.write(0, b"kept");
     let mut bay = MemoryBay::new(alloc);
@@ -162,8 +160,9 @@ fn a_file_that_is_there_stays(rt: HostRuntime) -> Result<(), Fail> {
     let mut input = ByteSource::new(SCRIPT.to_vec(alloc)?);
     let mut out = ByteSink::new(alloc);
     let mut err = ByteSink::new(alloc);
-    let status = run_grid(&rt, &words, &mut bay, &mut input, &mut out, &mut err);
-    assert!(rt; written.is_ok() && status == 5 && out.bytes() == NO_TEXT && err.bytes() == DEVICE);
+    let code = run_grid(&rt, given, &mut bay, &mut input, &mut out, &mut err);
+    assert!(rt; written.is_ok() && code == ExitCode::from(5));
+    assert!(rt; out.bytes() == NO_TEXT && err.bytes() == DEVICE);
     assert!(rt; matches!(bay.bytes("f"), Some([b'k', b'e', b'p', b't', 0, ..])));
     Ok(())
 }

@@ -6,7 +6,9 @@ mod scripts;
 
 use crate::run::run_grid;
 use disk_memory::{ByteSink, ByteSource, MemoryBay};
-use grid_types::Words;
+use std::alloc::{AllocError, Global};
+use std::env::Args;
+use std::process::ExitCode;
 use std::test::Fail;
 
 /// The words of a run on the file `f`.
@@ -18,6 +20,16 @@ const NO_TEXT: &[u8] = b"";
 const SCRIPT: &[u8] = b"put 3,7 6869\nget 3,7\n";
 
 const PRINTED: &[u8] = b"client 1\n@1 new\n@1 = 6869\nfront 1\n";
+
+/// The arguments of a command line with these words.
+fn arguments(alloc: Global, words: &[&str]) -> Result<Args, AllocError> {
+    let mut given = Vec::new(alloc);
+    given.push(String::from_str(alloc, "grid")?)?;
+    for word in words {
+        given.push(String::from_str(alloc, word)?)?;
+    }
+    Ok(given.into_iter())
+}
 
 /// A run over the forms in memory: what it is given, and which calls fail of the bay, the input, the output and the
 /// error output; 0 is no call. Input and output go in pieces of that size; 0 is no limit.
@@ -46,23 +58,24 @@ const WELL: Case<'static> = Case {
 /// What a run shows: its status, and what it prints and tells.
 #[derive(Drop)]
 struct Shown {
-    status: u8,
+    code: ExitCode,
     out: ByteSink,
     err: ByteSink,
 }
 
 impl Shown {
+    fn ends(&self, status: u8) -> bool {
+        self.code == ExitCode::from(status)
+    }
+
     fn is(&self, status: u8, printed: &[u8], told: &[u8]) -> bool {
-        self.status == status && self.out.bytes() == printed && self.err.bytes() == told
+        self.ends(status) && self.out.bytes() == printed && self.err.bytes() == told
     }
 }
 
 fn show(rt: &HostRuntime, case: &Case<'_>) -> Result<Shown, Fail> {
     let alloc = rt.alloc();
-    let mut words = Words::new(alloc);
-    for word in case.words {
-        words.add(alloc, word)?;
-    }
+    let given = Ok(arguments(alloc, case.words)?);
     let mut bay = MemoryBay::new(alloc);
     let mut input = ByteSource::new(case.script.to_vec(alloc)?);
     let mut out = ByteSink::new(alloc);
@@ -73,6 +86,6 @@ fn show(rt: &HostRuntime, case: &Case<'_>) -> Result<Shown, Fail> {
     input.fail(case.input_call)?;
     out.fail(case.out_call)?;
     err.fail(case.err_call)?;
-    let status = run_grid(rt, &words, &mut bay, &mut input, &mut out, &mut err);
-    Ok(Shown { status, out, err })
+    let code = run_grid(rt, given, &mut bay, &mut input, &mut out, &mut err);
+    Ok(Shown { code, out, err })
 }
