@@ -1,5 +1,5 @@
 -- What stays of an image where a range of its bytes changes, and what stands in the range after a write.
-use Rattle.std.proofs.Common.{◌≡◌, ◌<◌, ◌≤◌, ◌⊎◌, inl, inr, ◌+◌, ◌-◌, ◌*◌, ℕ, List, [], ◌∷◌, ◌++◌, length, take, drop, get_or, slice_index, refl, sym, ap, ◌∙◌, arith, rules, length-append, append_assoc}
+use Rattle.std.proofs.Common.{◌≡◌, ◌≢◌, ◌<◌, ◌≤◌, ◌⊎◌, inl, inr, ◌+◌, ◌-◌, ◌*◌, ℕ, List, [], ◌∷◌, ◌++◌, length, take, drop, get_or, slice_index, refl, sym, ap, ◌∙◌, arith, rules, length-append, append_assoc}
 use Rattle.std.proofs.lemmas.List.{take-take, drop-drop, drop-take, drop_at, take_at, length-take, length-take-le, length-drop, get_or-take, get_or-drop, ext_get_or, places}
 use Rattle.std.proofs.lemmas.Slice.{overwrites}
 use Rattle.grid_types.specs.Pages.{page_of}
@@ -100,3 +100,14 @@ pub part_of_page : (page from m : ℕ) (c : List ℕ) → from + m ≤ PAGE_BYTE
 part_of_page page from m c le =
     sym (drop-take from m (page_of page c)) ∙ ap (drop from) (take-take (from + m) PAGE_BYTES (drop (page * PAGE_BYTES) c) le) ∙ drop-take from m (drop (page * PAGE_BYTES) c)
     ∙ ap (take m) (drop-drop from (page * PAGE_BYTES) c)
+
+-- two pages that are not one lie apart
+pub pages_lie_apart : (p q : ℕ) → p ≢ q → (p * PAGE_BYTES + PAGE_BYTES ≤ q * PAGE_BYTES) ⊎ (q * PAGE_BYTES + PAGE_BYTES ≤ p * PAGE_BYTES)
+pages_lie_apart p q apart = elim (below_or_behind p q apart) [ inl low ↦ inl (omega (arith, low)) | inr high ↦ inr (omega (arith, high)) ]
+  where
+    below_or_behind : (p q : ℕ) → p ≢ q → (p < q) ⊎ (q < p)
+    below_or_behind p q apart = grind (arith, apart)
+
+-- a byte of one page lies outside of a range on another
+pub byte_off_range : (p q i at n : ℕ) → p ≢ q → p * PAGE_BYTES ≤ i → i < p * PAGE_BYTES + PAGE_BYTES → q * PAGE_BYTES ≤ at → at + n ≤ q * PAGE_BYTES + PAGE_BYTES → (i < at) ⊎ (at + n ≤ i)
+byte_off_range p q i at n apart low high from to = elim (pages_lie_apart p q apart) [ inl below ↦ inl (omega (arith, below, high, from)) | inr behind ↦ inr (omega (arith, behind, low, to)) ]

@@ -1,7 +1,9 @@
 -- Changes of several ranges of an image, one after the other.
-use Rattle.std.proofs.Common.{◌≡◌, ◌<◌, ◌≤◌, ◌+◌, ◌-◌, ℕ, List, [], ◌∷◌, length, take, drop, refl, sym, ap, arith, ◌∙◌}
+use Rattle.std.proofs.Common.{◌≡◌, ◌<◌, ◌≤◌, ◌+◌, ◌-◌, ◌*◌, ℕ, List, [], ◌∷◌, length, take, drop, refl, sym, ap, arith, ◌∙◌}
 use Rattle.std.specs.Prelude.{min}
 use Rattle.std.proofs.lemmas.List.{ext_get_or, length-take, length-drop, get_or-take, get_or-drop}
+use Rattle.grid_types.specs.Pages.{page_of}
+use Rattle.grid_types.specs.declared.sizes.TheConstants.{PAGE_BYTES}
 use Rattle.disk_trait.specs.Disk.{Agrees}
 use Rattle.disk_trait.specs.Moments.{IsOutside, AgreesOutside}
 use Rattle.disk_trait.proofs.Pages.{byte_apart}
@@ -29,3 +31,15 @@ outside_part rs from m c d apart a =
     ext_get_or 0 (take m (drop from d)) (take m (drop from c)) long (λ i h.
     let lt : i < m = omega (arith, h, length-take m (drop from d)) in
     get_or-take m (drop from d) i 0 lt ∙ get_or-drop from d i 0 ∙ a.each (from + i) (apart (from + i) (omega arith) (omega (arith, lt))) ∙ sym (get_or-drop from c i 0) ∙ sym (get_or-take m (drop from c) i 0 lt))
+
+-- two images have the same page
+abbrev pub SamePage : ℕ → List ℕ → List ℕ → Type 0
+SamePage page c d = page_of page d ≡ page_of page c
+
+-- a page lies beside each of these ranges
+abbrev pub PageIsOutside : List (ℕ × ℕ) → ℕ → Type 0
+PageIsOutside rs page = (i : ℕ) → page * PAGE_BYTES ≤ i → i < page * PAGE_BYTES + PAGE_BYTES → IsOutside rs i
+
+-- a page beside the ranges in which two images differ is the same
+pub page_outside : (rs : List (ℕ × ℕ)) (page : ℕ) (c d : List ℕ) → PageIsOutside rs page → AgreesOutside rs c d → SamePage page c d
+page_outside rs page c d apart a = outside_part rs (page * PAGE_BYTES) PAGE_BYTES c d apart a

@@ -13,10 +13,10 @@ use Rattle.grid_model.specs.Images.{HasShape, IsOtherOlder, HasArea}
 use Rattle.grid_model.specs.Roots.{WholeRoot, ComesNext, KeepsOld, IsReady}
 use Rattle.disk_trait.specs.Moments.{IsOutside}
 use Rattle.disk_trait.proofs.Pages.{part_of_page}
-use Rattle.disk_trait.proofs.Ranges.{outside_one, outside_more, outside_part}
+use Rattle.disk_trait.proofs.Ranges.{outside_one, outside_more, outside_part, page_outside}
 use Rattle.file_roots.specs.Places.{GateAlone, FieldsAlone, HeaderAlone, AreaAlone, RootAlone}
 use Rattle.file_roots.proofs.Headers.{header_two, gate_stays, off_page, area_high, gate_off_area, areas_apart}
-use Rattle.file_roots.proofs.Frames.{OtherRootStays, shape_by_fronts, other_by_page, kept_by_pages, area_by_pages, ready_by_pages, page_outside}
+use Rattle.file_roots.proofs.Frames.{OtherRootStays, shape_by_fronts, other_by_page, kept_by_pages, area_by_pages, ready_by_pages}
 
 -- what changes fewer bytes of a root changes more of them alone
 pub fields_in_header : (number : ℕ) (c d : List ℕ) → FieldsAlone number c d → HeaderAlone number c d

@@ -12,7 +12,7 @@ use Rattle.grid_model.specs.Images.{HasShape, header_gate, root_fields, IsOpenOv
 use Rattle.grid_model.specs.Roots.{WholeRoot, IsNewestWhole, ShowsOld, ShowsOldOrTried, ComesNext, KeepsOld, IsReady, HasFields, HasOlder, HasTried, HasOlderOrTried, IsReplaceable}
 use Rattle.disk_trait.specs.Disk.{Agrees}
 use Rattle.disk_trait.specs.Moments.{IsOutside, AgreesOutside}
-use Rattle.disk_trait.proofs.Ranges.{outside_one, outside_part}
+use Rattle.disk_trait.proofs.Ranges.{outside_one, page_outside}
 use Rattle.file_roots.proofs.Headers.{header_two, other_header}
 
 -- a gate stays with its page
@@ -148,10 +148,6 @@ module _ (s : Shape) (c d : List ℕ) (stays : RootPagesStay s c d) where
 
   pub replaceable_kept : (number : ℕ) (old tried : Option WholeRoot) → ComesNext old number → IsReplaceable s number old tried c → IsReplaceable s number old tried d
   replaceable_kept number old tried comes is = replaceable_by s c d area_kept number old tried (other_root number) (own_header number) comes is
-
--- a page that none of these ranges meets stays
-pub page_outside : (rs : List (ℕ × ℕ)) (page : ℕ) (c d : List ℕ) → ((i : ℕ) → page * 4096 ≤ i → i < page * 4096 + 4096 → IsOutside rs i) → AgreesOutside rs c d → page_of page d ≡ page_of page c
-page_outside rs page c d apart a = outside_part rs (page * 4096) 4096 c d apart a
 
 module _ (s : Shape) (lawful : IsTrue (is_shape s)) where
   -- they stay where only bytes behind the table areas change

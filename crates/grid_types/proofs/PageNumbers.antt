@@ -1,5 +1,5 @@
 -- Pages that are for different things have different numbers.
-use Rattle.std.proofs.Common.{◌≡◌, ◌<◌, ◌≤◌, ◌+◌, ◌-◌, ◌*◌, ℕ, zero, suc, cond, nat_lt, sym, ap, ◌∙◌, arith, lt-ltb, le-ltb}
+use Rattle.std.proofs.Common.{◌≡◌, ◌≢◌, ◌<◌, ◌≤◌, ◌+◌, ◌-◌, ◌*◌, ℕ, zero, suc, cond, nat_lt, sym, ap, ◌∙◌, arith, lt-ltb, le-ltb}
 use Rattle.grid_types.specs.declared.shape.Shape.{Shape}
 use Rattle.grid_types.specs.Shapes.{area_pages, table_page, gate_page, slot_page, data_page}
 use Rattle.grid_types.specs.FilePages.{FilePage, HeaderPage, AreaPage, GatePage, SlotPage, DataPage, page_number, HasPage, AreApart}
@@ -93,3 +93,23 @@ module _ (s : Shape) where
 -- pages with one number are one page
 pub are-apart : AreApart
 are-apart s p q x y same = sym (found s p x) ∙ ap (page_at s) same ∙ found s q y
+
+-- pages that are for different things have different numbers
+pub pages-differ : (s : Shape) (p q : FilePage) → HasPage s p → HasPage s q → p ≢ q → page_number s p ≢ page_number s q
+pages-differ s p q x y apart same = apart (are-apart s p q x y same)
+
+-- the place of a page among those of its kind
+abbrev pub place-of : FilePage → ℕ
+place-of (HeaderPage header) = header
+place-of (AreaPage area index) = index
+place-of (GatePage half) = half
+place-of (SlotPage half slot) = slot
+place-of (DataPage index) = index
+
+-- which of two areas or halves a page is of
+abbrev pub side-of : FilePage → ℕ
+side-of (HeaderPage header) = header
+side-of (AreaPage area index) = area
+side-of (GatePage half) = half
+side-of (SlotPage half slot) = half
+side-of (DataPage index) = 0

@@ -19,7 +19,6 @@ mod rows;
 mod shape;
 mod sizes;
 mod update;
-mod words;
 
 pub use answer::Answer;
 pub use cell_box::CellBox;
@@ -43,4 +42,3 @@ pub use sizes::{
     UPDATE_BYTES, WORDS_ON_PAGE,
 };
 pub use update::{Entry, Record, Update};
-pub use words::Words;

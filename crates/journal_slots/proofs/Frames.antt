@@ -11,28 +11,16 @@ use Rattle.grid_types.specs.Shapes as places
 use Rattle.grid_types.proofs.Places.{within-limits, slot-page-lies}
 use Rattle.disk_trait.specs.Disk.{Agrees, Holds}
 use Rattle.disk_trait.specs.Moments.{IsOutside, AgreesOutside}
-use Rattle.disk_trait.proofs.Pages.{page_apart, byte_apart, byte_of_page, part_written}
-use Rattle.disk_trait.proofs.Ranges.{outside_part}
+use Rattle.disk_trait.proofs.Pages.{page_apart, byte_apart, byte_of_page, part_written, pages_lie_apart, byte_off_range}
+use Rattle.disk_trait.proofs.Ranges.{SamePage, PageIsOutside, page_outside}
 use Rattle.page_fields.specs.Padded.{padded}
 use Rattle.page_fields.proofs.BytesOf.{length-padded}
 use Rattle.grid_model.specs.Spellings.{LoggedBatch, gate_spelling}
 use Rattle.grid_model.specs.Images.{HasGatesOf, HasBatches}
 use Rattle.grid_model.specs.Slots.{HasBatch}
 use Rattle.journal_slots.specs.Gates.{gates_in, IsGateHead}
-use Rattle.journal_slots.proofs.DifferentPages.{pages_lie_apart, byte_off_range, gate_pages_differ, slot_page_is_no_gate_page, slot_pages_differ}
+use Rattle.journal_slots.proofs.DifferentPages.{gate_pages_differ, slot_page_is_no_gate_page, slot_pages_differ}
 use Rattle.journal_slots.proofs.GatePages.{gate_head, gate_page_is, length-gate_head, gates_joined, head_there, zeros_there, gates_there}
-
--- two images have the same page
-abbrev pub SamePage : ℕ → List ℕ → List ℕ → Type 0
-SamePage page c d = page_of page d ≡ page_of page c
-
--- a page lies beside each of these ranges
-abbrev pub PageIsOutside : List (ℕ × ℕ) → ℕ → Type 0
-PageIsOutside rs page = (i : ℕ) → page * 4096 ≤ i → i < page * 4096 + 4096 → IsOutside rs i
-
--- a page beside the ranges in which two images differ is the same
-pub page_outside : (rs : List (ℕ × ℕ)) (page : ℕ) (c d : List ℕ) → PageIsOutside rs page → AgreesOutside rs c d → SamePage page c d
-page_outside rs page c d apart a = outside_part rs (page * 4096) 4096 c d apart a
 
 -- the gates of a half stay where its gate page does
 pub gates_stay_by_page : (s : Shape) (half : ℕ) (gates c d : List ℕ) → SamePage (places.gate_page s half) c d → HasGatesOf s c half gates → HasGatesOf s d half gates
@@ -194,11 +182,11 @@ module _ (s : Shape) (half slot : ℕ) (lawful : IsTrue (is_shape s)) (two : hal
 
   -- the gates of the other half stay
   pub other_half_stays_in_commit : (h : ℕ) (gates : List ℕ) → h < 2 → h ≢ half → HasGatesOf s c h gates → HasGatesOf s d h gates
-  other_half_stays_in_commit h gates too apart = gates_stay_by_page s h gates c d (page_stays_in_commit (places.gate_page s h) (λ e. slot_page_is_no_gate_page s lawful half slot h two too inside (sym e)) (gate_pages_differ s lawful h half too two apart))
+  other_half_stays_in_commit h gates too apart = gates_stay_by_page s h gates c d (page_stays_in_commit (places.gate_page s h) (λ e. slot_page_is_no_gate_page s half slot h two too inside (sym e)) (gate_pages_differ s h half too two apart))
 
   -- the page of each other slot stays
   pub slot_page_stays_in_commit : (other : ℕ × ℕ) → IsOtherSlot s half slot other → SamePage (slot_page s other.0 other.1) c d
-  slot_page_stays_in_commit other is = page_stays_in_commit (slot_page s other.0 other.1) (slot_pages_differ s lawful other.0 other.1 half slot is.two two is.inside inside is.apart) (slot_page_is_no_gate_page s lawful other.0 other.1 half is.two two is.inside)
+  slot_page_stays_in_commit other is = page_stays_in_commit (slot_page s other.0 other.1) (slot_pages_differ s other.0 other.1 half slot is.two two is.inside inside is.apart) (slot_page_is_no_gate_page s other.0 other.1 half is.two two is.inside)
 
   -- so do the batches of other slots
   pub batches_stay_in_commit : {K : ℕ} (slots : List (ℕ × ℕ)) (bs : List (LoggedBatch K)) → ((i : ℕ) (other : ℕ × ℕ) → slice_get slots i ≡ Some other → IsOtherSlot s half slot other) → HasBatches s c slots bs → HasBatches s d slots bs
@@ -233,11 +221,11 @@ module _ (s : Shape) (half from n : ℕ) (lawful : IsTrue (is_shape s)) (two : h
 
   -- the gates of the other half stay
   pub other_half_stays_in_clearing : (h : ℕ) (gates : List ℕ) → h < 2 → h ≢ half → HasGatesOf s c h gates → HasGatesOf s d h gates
-  other_half_stays_in_clearing h gates too apart = gates_stay_by_page s h gates c d (page_stays_in_clearing (places.gate_page s h) (gate_pages_differ s lawful h half too two apart))
+  other_half_stays_in_clearing h gates too apart = gates_stay_by_page s h gates c d (page_stays_in_clearing (places.gate_page s h) (gate_pages_differ s h half too two apart))
 
   -- the batches of all slots stay
   pub batches_stay_in_clearing : {K : ℕ} (slots : List (ℕ × ℕ)) (bs : List (LoggedBatch K)) → ((i : ℕ) (slot : ℕ × ℕ) → slice_get slots i ≡ Some slot → (slot.0 < 2) × (slot.1 < s.slots)) → HasBatches s c slots bs → HasBatches s d slots bs
-  batches_stay_in_clearing slots bs inside = batches_stay_by_page s slots bs c d (λ i slot at. page_stays_in_clearing (slot_page s slot.0 slot.1) (slot_page_is_no_gate_page s lawful slot.0 slot.1 half (inside i slot at).0 two (inside i slot at).1))
+  batches_stay_in_clearing slots bs inside = batches_stay_by_page s slots bs c d (λ i slot at. page_stays_in_clearing (slot_page s slot.0 slot.1) (slot_page_is_no_gate_page s slot.0 slot.1 half (inside i slot at).0 two (inside i slot at).1))
 
 -- once the first gates were closed, they are 0 and the others are as they were
 pub cleared_gates : (s : Shape) (half used : ℕ) (lawful : IsTrue (is_shape s)) → half < 2 → used ≤ s.slots → (gates c d : List ℕ) → Agrees (slot_gate_at s half 0) used c d → Holds c (slot_gate_at s half 0) (replicate used 0) d → HasGatesOf s c half gates → HasGatesOf s d half (replicate used 0 ++ drop used gates)
