@@ -26,15 +26,18 @@ module _ {K : ℕ} (L : Layout K) (n : ℕ) (b : BucketBox K) (c : Cut) (right :
   two_boxes : n ≢ right
   two_boxes e = some-not-none b (sym there ∙ ap (box L) e ∙ unused)
 
-  box-right : box (split L n b c right) right ≡ Some (right_of b c)
+  -- the right part has its number
+  pub box-right : box (split L n b c right) right ≡ Some (right_of b c)
   box-right = box-split L n b c right right ∙ ap (λ t. cond t (Some (right_of b c)) (cond (eq_by_cmp nat_cmp right n) (Some (left_of b c)) (box L right))) (ties-itself right)
 
-  box-left : box (split L n b c right) n ≡ Some (left_of b c)
+  -- the left part has the number of the box that is cut
+  pub box-left : box (split L n b c right) n ≡ Some (left_of b c)
   box-left = box-split L n b c right n
       ∙ ap (λ t. cond t (Some (right_of b c)) (cond (eq_by_cmp nat_cmp n n) (Some (left_of b c)) (box L n))) (no-tie n right two_boxes)
       ∙ ap (λ t. cond t (Some (left_of b c)) (box L n)) (ties-itself n)
 
-  box-other : (m : ℕ) → m ≢ right → m ≢ n → box (split L n b c right) m ≡ box L m
+  -- and the other boxes stay
+  pub box-other : (m : ℕ) → m ≢ right → m ≢ n → box (split L n b c right) m ≡ box L m
   box-other m r l = box-split L n b c right m
       ∙ ap (λ t. cond t (Some (right_of b c)) (cond (eq_by_cmp nat_cmp m n) (Some (left_of b c)) (box L m))) (no-tie m right r)
       ∙ ap (λ t. cond t (Some (left_of b c)) (box L m)) (no-tie m n l)

@@ -188,7 +188,7 @@ put-cut {K} numbers best shape L t r c right h lawful e fits = by (noted shape L
     by (IsCut d same is) = subst (λ n. StandsOver shape (after_note L r.key.numbers n) (effect t (Put r))) (sym same) (stands d is (subst (λ n. Fits shape (after_note L r.key.numbers n)) same fits))
 
 -- a note that a remove may merge by is a merge
-merges_only : {K : ℕ} (shape : Shape) (L : Layout K) (t : Table) (k : List ℕ) (c : Cut) (right : ℕ) → Contains (merges shape L t k) (note.Cut c right) → ⊥
+pub merges_only : {K : ℕ} (shape : Shape) (L : Layout K) (t : Table) (k : List ℕ) (c : Cut) (right : ℕ) → Contains (merges shape L t k) (note.Cut c right) → ⊥
 unfolding merges
 merges_only {K} shape L t k c right h = by (holder L k) h
   where

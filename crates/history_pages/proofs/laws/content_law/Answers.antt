@@ -1,0 +1,5 @@
+use Rattle.history_pages.proofs.Contents.{keeps-contents}
+use Rattle.history_pages.proofs.laws.content_law.Goals as goal
+
+pub returns : goal.returns
+returns g c = keeps-contents

@@ -1,0 +1,29 @@
+//! The laws of the pages of owners, as contracts of functions without code.
+ghost use Rattle.history_pages.specs.ContentLaws.{KeepsContents};
+ghost use Rattle.history_pages.specs.HoldingLaws.{CarriesOn};
+ghost use Rattle.history_pages.specs.PageLaws.{KeepsPages};
+ghost use Rattle.history_pages.specs.SpellingLaws.{SpellsLayout};
+
+/// The law of pages: exactly the owners of a layout have one, and a change leaves the page of each owner that it does not
+/// drop.
+pub fn page_law<const K: usize>()
+    ensures { KeepsPages K }
+{}
+
+/// The law of spellings: the pages of owners spell the layout and the table, and an image's pages do exactly where it has
+/// each owner's page.
+pub fn spelling_law<const K: usize>()
+    ensures { SpellsLayout K }
+{}
+
+/// The law of contents: what comes later in a history changes no content at an earlier place, and one more entry changes
+/// that of owners that it drops alone.
+pub fn content_law<const K: usize>()
+    ensures { KeepsContents K }
+{}
+
+/// The law of what is held: a change that was planned at one place is one at a later place too, with the same new pages,
+/// where the buckets that it drops are as they were, and so is the layout unless its note is plain.
+pub fn holding_law<const K: usize>()
+    ensures { CarriesOn K }
+{}
