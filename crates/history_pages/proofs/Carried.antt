@@ -79,30 +79,23 @@ module _ {K : ℕ} (shape : Shape) (L M : Layout K) (t s : Table) (u : Update K)
       let is : holder M (updated_key u) ≡ Some e = has-holder M (updated_key u) e.0 held.stands.sound.numbered held.stands.sound.apart (record { here = e.1; there = same.there; has = has }) in
       record { stands = held.stands; lawful = plain-lawful shape t s e same.agree L M u h.stands held.stands h.holds is has h.lawful; holds = is }
 
-  -- a note other than plain, over the same layout
-  note-lawful : (n : LayoutChange) (e : ℕ × BucketBox K) → IsChange shape L t u n e → IsHeld shape L t n e M s → StandsOver shape L s → (n ≡ note.Plain → ⊥) → IsLawfulNote shape L s u n
-  note-lawful note.Plain e h held new other = absurd (other refl)
-  note-lawful (note.Cut c right) e h held new _ = cut-lawful shape t s e (same-box shape L M t s u e (note.Cut c right) h held).agree L h.stands new u c right h.holds (box-there shape L t u (note.Cut c right) e h).1 h.lawful
-  note-lawful (note.Merge m) e h held new _ =
+  -- over the same layout each note is lawful still
+  note-lawful : (n : LayoutChange) (e : ℕ × BucketBox K) → IsChange shape L t u n e → IsHeld shape L t n e M s → StandsOver shape L s → IsLawfulNote shape L s u n
+  note-lawful note.Plain e h held new =
+      plain-lawful shape t s e (same-box shape L M t s u e note.Plain h held).agree L L u h.stands new h.holds h.holds (box-there shape L t u note.Plain e h).1 h.lawful
+  note-lawful (note.Cut c right) e h held new =
+      cut-lawful shape t s e (same-box shape L M t s u e (note.Cut c right) h held).agree L h.stands new u c right h.holds (box-there shape L t u (note.Cut c right) e h).1 h.lawful
+  note-lawful (note.Merge m) e h held new =
       let is : JoinsBox shape L _ e.0 e.1 m = lawful-join shape L t u e m h.stands h.lawful h.holds in
       merge-lawful shape t s e (same-box shape L M t s u e (note.Merge m) h held).agree L h.stands new u m is.other h.holds (box-there shape L t u (note.Merge m) e h).1 is.beside
       (same-other shape L M t s u e m is.other is.beside held).agree h.lawful
 
-  other-change : (n : LayoutChange) (e : ℕ × BucketBox K) → IsChange shape L t u n e → IsHeld shape L t n e M s → M ≡ L → (n ≡ note.Plain → ⊥) → IsChange shape M s u n e
-  other-change n e h held same other =
-      let stands : StandsOver shape L s = subst (λ (N : Layout K). StandsOver shape N s) same held.stands in
-      subst (λ (N : Layout K). IsChange shape N s u n e) (sym same) (record { stands = stands; lawful = note-lawful n e h held stands other; holds = h.holds })
-
   -- a change that is held is one over the later layout and table
   pub change-carries : (n : LayoutChange) (e : ℕ × BucketBox K) → IsChange shape L t u n e → IsHeld shape L t n e M s → IsChange shape M s u n e
-  change-carries note.Plain e h held = plain-change e h held
-  change-carries (note.Cut c right) e h held = by held.layout
+  change-carries n e h held = by held.layout
     where
-      by : (note.Cut c right ≡ note.Plain) ⊎ (M ≡ L) → IsChange shape M s u (note.Cut c right) e
-      by (inl q) = absurd (cc)
-      by (inr q) = other-change (note.Cut c right) e h held q (λ p. cc)
-  change-carries (note.Merge m) e h held = by held.layout
-    where
-      by : (note.Merge m ≡ note.Plain) ⊎ (M ≡ L) → IsChange shape M s u (note.Merge m) e
-      by (inl q) = absurd (cc)
-      by (inr q) = other-change (note.Merge m) e h held q (λ p. cc)
+      by : (n ≡ note.Plain) ⊎ (M ≡ L) → IsChange shape M s u n e
+      by (inl q) = subst (λ m. IsChange shape L t u m e → IsHeld shape L t m e M s → IsChange shape M s u m e) (sym q) (plain-change e) h held
+      by (inr q) =
+          let stands : StandsOver shape L s = subst (λ (N : Layout K). StandsOver shape N s) q held.stands in
+          subst (λ (N : Layout K). IsChange shape N s u n e) (sym q) (record { stands = stands; lawful = note-lawful n e h held stands; holds = h.holds })

@@ -14,6 +14,7 @@ pub mod Spelled
 pub mod Ascending
 pub mod Whole
 pub mod Following
+pub mod HistoryLayouts
 pub mod Contents
 pub mod Lawful
 pub mod Merging

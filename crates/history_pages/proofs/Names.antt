@@ -1,5 +1,5 @@
 -- Two layouts name the same box for a key.
-use Rattle.std.proofs.Common.{◌≡◌, ◌≢◌, ℕ, Bool, true, false, T, List, Option, Some, None, IsSome, refl, sym, true≢false, nat_cmp}
+use Rattle.std.proofs.Common.{◌≡◌, ◌≢◌, ℕ, Bool, true, false, T, List, Option, Some, None, IsSome, refl, sym, ap, true≢false, nat_cmp}
 use Rattle.std.specs.Option.{option_map_or}
 use Rattle.std.specs.FinMap.Entries.{is_sorted}
 use Rattle.grid_types.specs.Regions.{contains}
@@ -42,5 +42,5 @@ same-name {K} M L k sorted_new sorted apart some had = by (holder M k) refl some
     by None e some = absurd (true≢false (sym some))
     by (Some x) e some =
         let found = holder-box k M x sorted_new e in
-        let names : holder L k ≡ Some (x.0, (had x.0 (record { here = x.1; there = found.0; has = found.1 })).here) = has-holder L k x.0 sorted apart (had x.0 (record { here = x.1; there = found.0; has = found.1 })) in
-        λ i. option_map_or (λ y. y.0) (sym names i) 0
+        let was : Has L k x.0 = had x.0 (record { here = x.1; there = found.0; has = found.1 }) in
+        ap (λ o. option_map_or (λ y. y.0) o 0) (sym (has-holder L k x.0 sorted apart was))

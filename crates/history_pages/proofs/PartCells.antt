@@ -1,6 +1,6 @@
 -- The cells of a directory part, and which parts hold a cell of a region.
-use Rattle.std.proofs.Common.{◌≡◌, ◌<◌, ◌≤◌, ◌+◌, ◌*◌, ◌/◌, ◌==◌, ◌⊎◌, inl, inr, ℕ, Bool, true, false, ◌||◌, List, [], ◌∷◌, length, slice_get, Some, Contains, refl, sym, ap, ◌∙◌, subst, arith, true≢false, eq-eqb}
-use Rattle.std.proofs.lemmas.Bool.{or_left, or_right}
+use Rattle.std.proofs.Common.{◌≡◌, ◌<◌, ◌≤◌, ◌+◌, ◌*◌, ◌/◌, ◌==◌, ℕ, Bool, true, false, List, length, get_or, slice_get, Some, Contains, refl, sym, ap, ◌∙◌, subst, arith, true≢false, eq-eqb}
+use Rattle.std.proofs.lemmas.List.Folds.{list_any_at}
 use Rattle.std.proofs.lemmas.List.{length-map}
 use Rattle.std.specs.List.{list_any}
 use Rattle.grid_types.specs.declared.region.Region.{Region}
@@ -13,16 +13,7 @@ use Rattle.grid_model.specs.Cells.{dims, parts, part_of, all_cells, cells_of, ce
 use Rattle.grid_model.specs.ScaleLaws.{IsCell}
 use Rattle.grid_model.proofs.CellLaws.{have-indices}
 use Rattle.grid_model.proofs.LowestKeys.{corner-lies, corner-long, corner-number}
-use Rattle.grid_model.proofs.Members.{contains-split, contains-none, contains-filter, contains-range, among-from-contains}
-
--- a test passes for one of the items where it does for an item of theirs
-one-passes : {X : Type 0} (p : X → Bool) (xs : List X) (x : X) → Contains xs x → p x ≡ true → list_any p xs ≡ true
-one-passes p [] x h e = contains-none x h
-one-passes p (y ∷ ys) x h e = by (contains-split y ys x h) (λ g. one-passes p ys x g e)
-  where
-    by : (y ≡ x) ⊎ Contains ys x → (Contains ys x → list_any p ys ≡ true) → (p y || list_any p ys) ≡ true
-    by (inl s) rest = or_left (p y) (list_any p ys) (ap p s ∙ e)
-    by (inr g) rest = or_right (p y) (list_any p ys) (rest g)
+use Rattle.grid_model.proofs.Members.{contains-filter, contains-range, among-from-contains}
 
 -- the part of a cell of the region holds one
 holds-cell : {K : ℕ} (scales : List (List ℕ)) (r : Region K) (cell : List ℕ) (p : ℕ) → Contains (cells_of scales r) cell → part_of scales cell ≡ p → p < parts scales → is_among (parts_holding scales r) p ≡ true
@@ -30,7 +21,7 @@ holds-cell scales r cell p there is within =
     among-from-contains (parts_holding scales r) p
     (contains-filter (λ q. list_any (λ c. part_of scales c == q) (cells_of scales r)) (below (parts scales)) p
     (contains-range 0 (parts scales) p (omega arith) (omega (arith, within)))
-    (one-passes (λ c. part_of scales c == p) (cells_of scales r) cell there (eq-eqb (part_of scales cell) p is)))
+    (list_any_at (λ c. part_of scales c == p) (cells_of scales r) there.0 cell there.1 (eq-eqb (part_of scales (get_or (cells_of scales r) there.0 cell)) p (ap (part_of scales) there.2 ∙ is))))
 
 -- a cell stands at a place of the directory: its lowest key is a key that lies in it, and its part is that of the place
 pub record IsPlaced (K : ℕ) (scales : List (List ℕ)) (i : ℕ) (cell : List ℕ) : Type 0 where

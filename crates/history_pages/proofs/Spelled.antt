@@ -24,7 +24,7 @@ use Rattle.grid_model.proofs.Divided.{lawful-bucket}
 use Rattle.grid_model.proofs.Holders.{holder-box}
 use Rattle.grid_model.proofs.Numbered.{found-among}
 use Rattle.history_pages.specs.OwnerPages.{as_bucket, numbered_bucket, owner_page}
-use Rattle.history_pages.specs.SpellingLaws.{cells_of_part}
+use Rattle.history_pages.specs.SpellingLaws.{cells_in_part}
 use Rattle.history_pages.proofs.PartCells.{placed}
 
 -- the page of a bucket spells it
@@ -53,7 +53,7 @@ module _ {K : ℕ} (shape : Shape) (L : Layout K) (t : Table) (p : ℕ) (stands 
       by (Some x) e some = found-among L.boxes x.0 (ap is_some (holder-box k L x stands.sound.numbered e).0)
 
   -- a part has the cells that are left, a thousand at most
-  part-count : length (directory_part L p) ≡ cells_of_part L.scales p
+  part-count : length (directory_part L p) ≡ cells_in_part L.scales p
   unfolding directory_part directory
   part-count =
       length-take WORDS_ON_PAGE (drop (WORDS_ON_PAGE * p) (map name (all_cells L.scales)))
@@ -70,7 +70,7 @@ module _ {K : ℕ} (shape : Shape) (L : Layout K) (t : Table) (p : ℕ) (stands 
       (λ i d l. number-of-box (corner L.scales (slice_index_or (all_cells L.scales) i d)) (placed K L.scales stands.sound.attributes stands.sound.scales i (slice_index_or (all_cells L.scales) i d) (slice_get-get_or (all_cells L.scales) i d l)).key)))
 
   -- the page of a part is the expected one for each cell that is read
-  pub part-expected : (read : ℕ) (bytes : List ℕ) → owner_page L t (Part p) ≡ Some bytes → read < cells_of_part L.scales p → IsExpectedPart bytes p (cells_of_part L.scales p) (owners L).buckets read (directory_part L p)
+  pub part-expected : (read : ℕ) (bytes : List ℕ) → owner_page L t (Part p) ≡ Some bytes → read < cells_in_part L.scales p → IsExpectedPart bytes p (cells_in_part L.scales p) (owners L).buckets read (directory_part L p)
   unfolding owner_page
   part-expected read bytes page inside = record {
     spelled = by (nat_lt p (parts L.scales)) page;

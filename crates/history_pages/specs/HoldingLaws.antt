@@ -1,5 +1,5 @@
 -- A change that was planned at one place is as good at a later one, where what it stands on is held.
-use Rattle.std.specs.Prelude.{◌≡◌, ◌⊎◌, ℕ, false, IsTrue}
+use Rattle.std.specs.Prelude.{◌≡◌, ◌⊎◌, ℕ, false, IsSome, IsTrue}
 use Rattle.grid_types.specs.declared.layout_change.LayoutChange.{LayoutChange}
 use Rattle.grid_types.specs.declared.layout_change.LayoutChange.TheVariants as note
 use Rattle.grid_types.specs.declared.owner.Owner.{Owner}
@@ -7,7 +7,7 @@ use Rattle.grid_types.specs.declared.shape.Shape.{Shape}
 use Rattle.grid_types.specs.declared.update.Update.{Update}
 use Rattle.grid_model.specs.Lists.{is_among}
 use Rattle.grid_model.specs.Tables.{Table, effect}
-use Rattle.grid_model.specs.Layouts.{BucketBox, Layout}
+use Rattle.grid_model.specs.Layouts.{BucketBox, Layout, box}
 use Rattle.grid_model.specs.Notes.{after_note_at}
 use Rattle.grid_model.specs.Lawful.{IsUpdateOf}
 use Rattle.grid_model.specs.LayoutLaws.{StandsOver, Fits}
@@ -21,7 +21,7 @@ pub record IsHeld {K : ℕ} (shape : Shape) (L : Layout K) (t : Table) (n : Layo
   pub buckets : (m : ℕ) → IsTrue (is_among (dropped L e n).buckets m) → numbered_bucket M s m ≡ numbered_bucket L t m
   pub layout : (n ≡ note.Plain) ⊎ (M ≡ L)
 
--- another change of M and s passes by one of L: it drops none of its buckets, one of the two notes is plain, and the layout after it fits
+-- another change, of M and s, passes by one of L: it drops none of the buckets that this one drops, one of the two notes is plain, and the layout after it fits
 pub record PassesBy {K : ℕ} (shape : Shape) (L : Layout K) (n : LayoutChange) (e : ℕ × BucketBox K) (M : Layout K) (s : Table) (v : Update K) (other : LayoutChange) (f : ℕ × BucketBox K) : Type 0 where
   pub is_change : IsChange shape M s v other f
   pub update : IsUpdateOf K v
@@ -29,11 +29,16 @@ pub record PassesBy {K : ℕ} (shape : Shape) (L : Layout K) (n : LayoutChange) 
   pub apart : (m : ℕ) → IsTrue (is_among (dropped L e n).buckets m) → is_among (dropped M f other).buckets m ≡ false
   pub one_plain : (n ≡ note.Plain) ⊎ (other ≡ note.Plain)
 
--- a change is held where it is planned, and past each other change that passes by it; where it is held it is a change there too, of the same box, and each owner that it renews has the same new page
+-- a change is held where it is planned, and past each other change that passes by it, which takes no more than that no box is dropped by both; where it is held it is a change too, of the same box, it drops and renews the same owners, and each of these has the same new page
 pub record CarriesOn (K : ℕ) : Type 0 where
   pub here : (shape : Shape) (L : Layout K) (t : Table) (n : LayoutChange) (e : ℕ × BucketBox K) → StandsOver shape L t → IsHeld shape L t n e L t
   pub stays : (shape : Shape) (L M : Layout K) (t s : Table) (n : LayoutChange) (e : ℕ × BucketBox K) (v : Update K) (other : LayoutChange) (f : ℕ × BucketBox K) → IsHeld shape L t n e M s → PassesBy shape L n e M s v other f
       → IsHeld shape L t n e (after_note_at M f other) (effect s v)
+  pub apart : (shape : Shape) (L M : Layout K) (t s : Table) (u : Update K) (n : LayoutChange) (e : ℕ × BucketBox K) (v : Update K) (other : LayoutChange) (f : ℕ × BucketBox K) → IsChange shape L t u n e → IsHeld shape L t n e M s → IsChange shape M s v other f
+      → (n ≡ note.Plain) ⊎ (other ≡ note.Plain) → ((m : ℕ) → IsSome (box M m) → IsTrue (is_among (dropped L e n).buckets m) → is_among (dropped M f other).buckets m ≡ false)
+      → (m : ℕ) → IsTrue (is_among (dropped L e n).buckets m) → is_among (dropped M f other).buckets m ≡ false
   pub change : (shape : Shape) (L M : Layout K) (t s : Table) (u : Update K) (n : LayoutChange) (e : ℕ × BucketBox K) → IsChange shape L t u n e → IsHeld shape L t n e M s → IsChange shape M s u n e
+  pub drops : (shape : Shape) (L M : Layout K) (t s : Table) (n : LayoutChange) (e : ℕ × BucketBox K) → IsHeld shape L t n e M s → dropped M e n ≡ dropped L e n
+  pub renews : (shape : Shape) (L M : Layout K) (t s : Table) (n : LayoutChange) (e : ℕ × BucketBox K) → IsHeld shape L t n e M s → renewed M e n ≡ renewed L e n
   pub pages : (shape : Shape) (L M : Layout K) (t s : Table) (u : Update K) (n : LayoutChange) (e : ℕ × BucketBox K) (o : Owner) → IsChange shape L t u n e → IsHeld shape L t n e M s
       → IsTrue (has_owner (renewed L e n) o) → page_after M s u n e o ≡ page_after L t u n e o

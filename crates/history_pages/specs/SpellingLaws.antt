@@ -20,8 +20,8 @@ use Rattle.history_pages.specs.OwnerPages.{owner_page, ImagePages, page_in}
 use Rattle.history_pages.specs.PageLaws.{IsChange, Follow}
 
 -- how many cells a directory part has: a thousand, the last part what is left
-abbrev pub cells_of_part : List (List ℕ) → ℕ → ℕ
-cells_of_part scales p = min WORDS_ON_PAGE (cells scales - WORDS_ON_PAGE * p)
+abbrev pub cells_in_part : List (List ℕ) → ℕ → ℕ
+cells_in_part scales p = min WORDS_ON_PAGE (cells scales - WORDS_ON_PAGE * p)
 
 -- an image's pages spell a layout and a table
 abbrev pub ImageSpells : {K : ℕ} → Shape → ImagePages → Layout K → Table → Type 0
@@ -31,8 +31,8 @@ ImageSpells s pages L t = PagesSpell s pages.image pages.parts_at pages.table L 
 pub record SpellsLayout (K : ℕ) : Type 0 where
   pub bucket : (shape : Shape) (L : Layout K) (t : Table) (n : ℕ) (b : BucketBox K) (bytes : List ℕ) → StandsOver shape L t → box L n ≡ Some b → owner_page L t (Bucket n) ≡ Some bytes
       → SpellsBucket shape.capacity bytes (bucket_on t (n, b))
-  pub part : (shape : Shape) (L : Layout K) (t : Table) (p read : ℕ) (bytes : List ℕ) → StandsOver shape L t → owner_page L t (Part p) ≡ Some bytes → read < cells_of_part L.scales p
-      → IsExpectedPart bytes p (cells_of_part L.scales p) (owners L).buckets read (directory_part L p)
+  pub part : (shape : Shape) (L : Layout K) (t : Table) (p read : ℕ) (bytes : List ℕ) → StandsOver shape L t → owner_page L t (Part p) ≡ Some bytes → read < cells_in_part L.scales p
+      → IsExpectedPart bytes p (cells_in_part L.scales p) (owners L).buckets read (directory_part L p)
   pub whole : (shape : Shape) (L : Layout K) (t : Table) (pages : ImagePages) → StandsOver shape L t → ImageSpells shape pages L t ↔ ((o : Owner) → page_in shape pages o ≡ owner_page L t o)
   pub next : (shape : Shape) (L : Layout K) (t : Table) (u : Update K) (n : LayoutChange) (e : ℕ × BucketBox K) (before later : ImagePages) → IsChange shape L t u n e → IsUpdateOf K u → Fits shape (after_note_at L e n)
       → ImageSpells shape before L t → Follow L t u n e (page_in shape before) (page_in shape later) → ImageSpells shape later (after_note_at L e n) (effect t u)

@@ -1,5 +1,5 @@
 //! The laws of the pages of owners, as contracts of functions without code.
-ghost use Rattle.history_pages.specs.ContentLaws.{KeepsContents};
+ghost use Rattle.history_pages.specs.HistoryLaws.{KeepsContents, MakesLayouts};
 ghost use Rattle.history_pages.specs.HoldingLaws.{CarriesOn};
 ghost use Rattle.history_pages.specs.PageLaws.{KeepsPages};
 ghost use Rattle.history_pages.specs.SpellingLaws.{SpellsLayout};
@@ -16,10 +16,11 @@ pub fn spelling_law<const K: usize>()
     ensures { SpellsLayout K }
 {}
 
-/// The law of contents: what comes later in a history changes no content at an earlier place, and one more entry changes
-/// that of owners that it drops alone.
+/// The law of contents: what comes later in a history changes no layout and no content at an earlier place, and one more
+/// entry changes the content of those owners alone that it drops.
 pub fn content_law<const K: usize>()
-    ensures { KeepsContents K }
+    ensures layouts { MakesLayouts K }
+    ensures contents { KeepsContents K }
 {}
 
 /// The law of what is held: a change that was planned at one place is one at a later place too, with the same new pages,
