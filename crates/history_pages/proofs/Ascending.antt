@@ -17,6 +17,7 @@ tagged n = (n, 0)
 abbrev pub Ascends : List ℕ → Type 0
 Ascends ns = T (is_sorted nat_cmp (map tagged ns))
 
+-- a tagged number is found exactly where the number is there
 find-tagged : (ns : List ℕ) (q : ℕ) → find nat_cmp q (map tagged ns) ≡ cond (is_among ns q) (Some 0) None
 find-tagged [] q = refl
 find-tagged (n ∷ ns) q = ap (λ t. cond t (Some 0) (find nat_cmp q (map tagged ns))) (sym (cmp-test n q)) ∙ by (n == q) (find-tagged ns q)
@@ -25,6 +26,7 @@ find-tagged (n ∷ ns) q = ap (λ t. cond t (Some 0) (find nat_cmp q (map tagged
     by true rest = refl
     by false rest = rest
 
+-- without their tags the numbers are as before
 untagged : (ns : List ℕ) → map (λ e. e.0) (map tagged ns) ≡ ns
 untagged [] = refl
 untagged (n ∷ ns) = ap (λ s. n ∷ s) (untagged ns)
@@ -36,6 +38,7 @@ same-numbers ns ms a b same =
     sym (untagged ns) ∙ ap (map (λ (e : ℕ × ℕ). e.0)) one ∙ untagged ms
 
 module _ {X : Type 0} where
+  -- the order of entries is that of their numbers
   below-alike : (n : ℕ) (es : List (ℕ × X)) → below_all nat_cmp n (map tagged (map (λ e. e.0) es)) ≡ below_all nat_cmp n es
   below-alike n [] = refl
   below-alike n (e ∷ es) = ap (λ t. is_lt (nat_cmp n e.0) && t) (below-alike n es)
@@ -48,6 +51,7 @@ module _ {X : Type 0} where
   pub entries-ascend : (es : List (ℕ × X)) → T (is_sorted nat_cmp es) → Ascends (map (λ e. e.0) es)
   entries-ascend es s = subst T (sym (sorted-alike es)) s
 
+-- the numbers that pass, tagged, are the tagged ones that pass
 tagged-where : (p : ℕ → Bool) (ns : List ℕ) → map tagged (filter p ns) ≡ where_key nat_cmp p (map tagged ns)
 tagged-where p [] = refl
 tagged-where p (n ∷ ns) = by (p n) (tagged-where p ns)
@@ -56,9 +60,11 @@ tagged-where p (n ∷ ns) = by (p n) (tagged-where p ns)
     by true rest = ap (λ s. tagged n ∷ s) rest
     by false rest = rest
 
+-- a lower number compares as less
 less : (x a : ℕ) → x < a → T (is_lt (nat_cmp x a))
 less x a p = subst (λ o. T (is_lt o)) (nat_cmp_is x a Less p) tt
 
+-- a range ascends
 range-below : (x a n : ℕ) → x < a → T (below_all nat_cmp x (map tagged (range_with_len a n)))
 range-below x a zero p = tt
 range-below x a (suc n) p = both-parts (is_lt (nat_cmp x a)) (below_all nat_cmp x (map tagged (range_with_len (a + 1) n))) (less x a p) (range-below x (a + 1) n (omega (arith, p)))

@@ -72,6 +72,7 @@ module _ {K : ℕ} (shape : Shape) (t s : Table) (e : ℕ × BucketBox K) (agree
         (ap is_some (agree k.numbers has) ∙ there, inr (still-merges shape L s t k e m c old.sound.numbered new.table old.table is beside agree other q))
 
 module _ {K : ℕ} (shape : Shape) (L M : Layout K) (t s : Table) (u : Update K) where
+  -- a plain change is one over the later layout and table
   plain-change : (e : ℕ × BucketBox K) → IsChange shape L t u note.Plain e → IsHeld shape L t note.Plain e M s → IsChange shape M s u note.Plain e
   plain-change e h held =
       let same = same-box shape L M t s u e note.Plain h held in

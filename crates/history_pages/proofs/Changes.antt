@@ -44,10 +44,11 @@ module _ {K : ℕ} (shape : Shape) (L : Layout K) (t : Table) (u : Update K) whe
     pub box-there : (box L e.0 ≡ Some e.1) × (contains e.1.region (updated_key u) ≡ true)
     box-there = holder-box (updated_key u) L e h.stands.sound.numbered h.holds
 
+    -- the box of its number has the key
     has : Has L (updated_key u) e.0
     has = record { here = e.1; there = box-there.0; has = box-there.1 }
 
-  -- a bucket that is not dropped stays, by notes
+  -- a bucket that a cut does not drop stays
   bucket-of-cut : (e : ℕ × BucketBox K) (c : Cut) (right m : ℕ) → IsChange shape L t u (note.Cut c right) e → is_among (e.0 ∷ right ∷ []) m ≡ false → numbered_bucket (split L e.0 e.1 c right) (effect t u) m ≡ numbered_bucket L t m
   bucket-of-cut e c right m h out =
       let is : CutsBox L e.1 c right = lawful-cut shape L t u e c right h.stands h.lawful h.holds in
@@ -55,6 +56,7 @@ module _ {K : ℕ} (shape : Shape) (L : Layout K) (t : Table) (u : Update K) whe
       bucket-stays (split L e.0 e.1 c right) L t u e.0 m h.stands.table h.stands.sound.apart (has (note.Cut c right) e h) first
       (box-other L e.0 e.1 c right (box-there (note.Cut c right) e h).0 is.free m (not-second e.0 right m false out) first)
 
+  -- and so does one that a merge does not drop
   bucket-of-merge : (e : ℕ × BucketBox K) (m : ℕ) (is : JoinsBox shape L (effect t u) e.0 e.1 m) (i : ℕ) → IsChange shape L t u (note.Merge m) e → is_among (min e.0 m ∷ max e.0 m ∷ []) i ≡ false
       → numbered_bucket (joined L e.0 e.1 m is.other) (effect t u) i ≡ numbered_bucket L t i
   bucket-of-merge e m is i h out =

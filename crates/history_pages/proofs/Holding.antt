@@ -1,7 +1,8 @@
 -- A change is held where it is planned, and past each change that passes by it.
-use Rattle.std.proofs.Common.{◌≡◌, ◌⊎◌, inl, inr, ℕ, Bool, true, false, [], ◌∷◌, Option, Some, None, IsSome, is_some, refl, sym, ap, ◌∙◌}
+use Rattle.std.proofs.Common.{◌≡◌, ◌⊎◌, inl, inr, ℕ, Bool, true, false, [], ◌∷◌, Option, Some, None, IsSome, List, is_some, refl, sym, ap, ◌∙◌}
 use Rattle.grid_types.specs.declared.layout_change.LayoutChange.{LayoutChange}
 use Rattle.grid_types.specs.declared.layout_change.LayoutChange.TheVariants as note
+use Rattle.grid_types.specs.declared.owner.Owner.{Owner}
 use Rattle.grid_types.specs.declared.shape.Shape.{Shape}
 use Rattle.grid_types.specs.declared.update.Update.{Update}
 use Rattle.grid_model.specs.Lists.{is_among}
@@ -11,7 +12,8 @@ use Rattle.grid_model.specs.Notes.{after_note_at}
 use Rattle.grid_model.specs.LayoutLaws.{StandsOver}
 use Rattle.grid_model.specs.Lone.{renewed, dropped}
 use Rattle.grid_model.proofs.Boxes.{some-not-none}
-use Rattle.history_pages.specs.PageLaws.{IsChange}
+use Rattle.history_pages.specs.OwnerPages.{has_owner}
+use Rattle.history_pages.specs.PageLaws.{IsChange, Follow}
 use Rattle.history_pages.specs.HoldingLaws.{IsHeld, PassesBy, CarriesOn}
 use Rattle.history_pages.proofs.Carried.{same-box, change-carries}
 use Rattle.history_pages.proofs.Changes.{box-there, others-bucket}
@@ -65,16 +67,32 @@ apart-boxes {K} shape L M t s u n e v other f h held g one_plain boxes m among =
     by (inl q) = boxes m (there q) among
     by (inr q) = missing q (box M m) refl
 
--- a change that is held drops and renews the same owners
+-- a change that is held drops the same owners
 same-dropped : {K : ℕ} (L M : Layout K) (n : LayoutChange) (e : ℕ × BucketBox K) → (n ≡ note.Plain) ⊎ (M ≡ L) → dropped M e n ≡ dropped L e n
 unfolding renewed dropped
 same-dropped L M n e (inl q) = ap (dropped M e) q ∙ sym (ap (dropped L e) q)
 same-dropped L M n e (inr q) = ap (λ N. dropped N e n) q
 
+-- and it renews the same
 same-renewed : {K : ℕ} (L M : Layout K) (n : LayoutChange) (e : ℕ × BucketBox K) → (n ≡ note.Plain) ⊎ (M ≡ L) → renewed M e n ≡ renewed L e n
 unfolding renewed
 same-renewed L M n e (inl q) = ap (renewed M e) q ∙ sym (ap (renewed L e) q)
 same-renewed L M n e (inr q) = ap (λ N. renewed N e n) q
+
+-- pages that follow others by a change as it was planned follow them by it as it is held
+follow-held : {K : ℕ} (shape : Shape) (L M : Layout K) (t s : Table) (u : Update K) (n : LayoutChange) (e : ℕ × BucketBox K) (before later : Owner → Option (List ℕ)) → IsChange shape L t u n e → IsHeld shape L t n e M s
+    → Follow L t u n e before later → Follow M s u n e before later
+follow-held shape L M t s u n e before later h held f = record {
+  new = λ o new. let was = renewed-then o ∙ new in f.new o was ∙ sym (pages-carry shape L M t s u n e o h held was);
+  others = λ o out. f.others o (dropped-then o ∙ out);
+  gone = λ o new old. f.gone o (renewed-then o ∙ new) (dropped-then o ∙ old);
+}
+  where
+    dropped-then : (o : Owner) → has_owner (dropped L e n) o ≡ has_owner (dropped M e n) o
+    dropped-then o = ap (λ x. has_owner x o) (sym (same-dropped L M n e held.layout))
+
+    renewed-then : (o : Owner) → has_owner (renewed L e n) o ≡ has_owner (renewed M e n) o
+    renewed-then o = ap (λ x. has_owner x o) (sym (same-renewed L M n e held.layout))
 
 -- what is held carries on
 pub carries-on : {K : ℕ} → CarriesOn K
@@ -86,4 +104,5 @@ carries-on = record {
   drops = λ shape L M t s n e held. same-dropped L M n e held.layout;
   renews = λ shape L M t s n e held. same-renewed L M n e held.layout;
   pages = pages-carry;
+  follow = follow-held;
 }

@@ -51,6 +51,7 @@ module _ {K : ℕ} (shape : Shape) (L : Layout K) (sorted : T (is_sorted nat_cmp
       by None q = absurd (some-not-none x (sym q))
       by (Some k) q = (holder-box k L x sorted q).0
 
+  -- a neighbour that joined joins still
   still-joins : (side : Direction) → joins shape L t r side ≡ Some m → joins shape L s r side ≡ Some m
   still-joins side e = by (neighbour L r side) refl e
     where
@@ -66,6 +67,7 @@ module _ {K : ℕ} (shape : Shape) (L : Layout K) (sorted : T (is_sorted nat_cmp
       by None p q = absurd (some-not-none m (sym q))
       by (Some x) p q = at x (neighbour-there side x p) (can_join shape t r x.1.region) refl q
 
+  -- so it is a partner still
   still-partners : Contains (partners shape L t r) m → Contains (partners shape L s r) m
   unfolding partners
   still-partners h = still-made (joins shape L t r) (joins shape L s r) m still-joins (directions (length r.lo)) h

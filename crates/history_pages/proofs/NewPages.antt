@@ -66,6 +66,7 @@ page-alike M L s t u i same g h agree =
     bucket-page M L (effect s u) (effect t u) i (same-bucket M L (effect s u) (effect t u) i same (effect-table s u g) (effect-table t u h) (λ d at. agree-after d.region s t u (agree d at)))
 
 module _ {K : ℕ} (shape : Shape) (L M : Layout K) (t s : Table) (u : Update K) where
+  -- the new page of a plain change
   plain-pages : (e : ℕ × BucketBox K) (o : Owner) → IsChange shape L t u note.Plain e → IsHeld shape L t note.Plain e M s → has_owner (renewed L e note.Plain) o ≡ true → owner_page M (effect s u) o ≡ owner_page L (effect t u) o
   unfolding renewed
   plain-pages e (Bucket i) h held new =
@@ -76,6 +77,7 @@ module _ {K : ℕ} (shape : Shape) (L M : Layout K) (t s : Table) (u : Update K)
       (λ d at. subst (λ (x : BucketBox K). Agree x.region s t) (one-box L e.0 i e.1 d there at number) same.agree)
   plain-pages e (Part p) h held new = absurd (true≢false (sym new))
 
+  -- those of a cut
   cut-pages : (c : Cut) (right : ℕ) (e : ℕ × BucketBox K) (o : Owner) → IsChange shape L t u (note.Cut c right) e → IsHeld shape L t (note.Cut c right) e M s → has_owner (renewed L e (note.Cut c right)) o ≡ true
       → owner_page (split L e.0 e.1 c right) (effect s u) o ≡ owner_page (split L e.0 e.1 c right) (effect t u) o
   unfolding renewed
@@ -87,6 +89,7 @@ module _ {K : ℕ} (shape : Shape) (L M : Layout K) (t s : Table) (u : Update K)
       (λ d at. agree-cut L s t e.0 e.1 c right (h.stands.sound.regions e.0 e.1 there) there is same.agree i d at (one-of-two e.0 right i new))
   cut-pages c right e (Part p) h held new = part-of-layout (split L e.0 e.1 c right) (effect s u) (effect t u) p
 
+  -- and those of a merge
   merge-pages : (m : ℕ) (e : ℕ × BucketBox K) (is : JoinsBox shape L (effect t u) e.0 e.1 m) (o : Owner) → IsChange shape L t u (note.Merge m) e → IsHeld shape L t (note.Merge m) e M s → has_owner (renewed L e (note.Merge m)) o ≡ true
       → owner_page (joined L e.0 e.1 m is.other) (effect s u) o ≡ owner_page (joined L e.0 e.1 m is.other) (effect t u) o
   unfolding renewed
@@ -98,6 +101,7 @@ module _ {K : ℕ} (shape : Shape) (L M : Layout K) (t s : Table) (u : Update K)
       (λ d at. agree-join shape L (effect t u) s t e.0 e.1 m h.stands.sound there is same.agree other.agree i d at (one-of-one (min e.0 m) i new))
   merge-pages m e is (Part p) h held new = part-of-layout (joined L e.0 e.1 m is.other) (effect s u) (effect t u) p
 
+  -- by notes
   pages-by : (n : LayoutChange) (e : ℕ × BucketBox K) (o : Owner) → IsChange shape L t u n e → IsHeld shape L t n e M s → (n ≡ note.Plain) ⊎ (M ≡ L) → has_owner (renewed L e n) o ≡ true → page_after M s u n e o ≡ page_after L t u n e o
   pages-by note.Plain e o h held _ new = plain-pages e o h held new
   pages-by (note.Cut c right) e o h held (inl q) new = absurd (cc)

@@ -23,6 +23,7 @@ named_cells scales name p = take WORDS_ON_PAGE (drop (WORDS_ON_PAGE * p) (map (�
 abbrev page_by_names : List (List ℕ) → (List ℕ → ℕ) → ℕ → Option (List ℕ)
 page_by_names scales name p = cond (nat_lt p (parts scales)) (Some (directory_spelling p (named_cells scales name p))) None
 
+-- it is so of a layout, by its names
 is-by-names : {K : ℕ} (L : Layout K) (t : Table) (p : ℕ) → owner_page L t (Part p) ≡ page_by_names L.scales (number_at L) p
 unfolding owner_page directory directory_part
 is-by-names L t p = refl

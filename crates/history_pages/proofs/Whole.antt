@@ -40,6 +40,7 @@ module _ {K : ℕ} (shape : Shape) (L : Layout K) (t : Table) (pages : ImagePage
 
   -- an image whose pages spell a layout and a table has each owner's page
   module _ (h : ImageSpells shape pages L t) where
+    -- that of a bucket
     has-bucket : (n : ℕ) → page_in shape pages (Bucket n) ≡ owner_page L t (Bucket n)
     unfolding page_in owner_page numbered_bucket
     has-bucket n = ap (λ b. cond b (Some (bucket_in n)) None) (ap (λ ns. is_among ns n) (sym h.numbers) ∙ sym (found-where L.boxes n)) ∙ by (box L n) refl
@@ -48,6 +49,7 @@ module _ {K : ℕ} (shape : Shape) (L : Layout K) (t : Table) (pages : ImagePage
         by None e = refl
         by (Some b) e = ap Some (h.buckets n b e).bytes
 
+    -- that of a part
     has-part : (p : ℕ) → page_in shape pages (Part p) ≡ owner_page L t (Part p)
     unfolding page_in owner_page
     has-part p = ap (λ m. cond (nat_lt p m) (Some (part_in p)) None) h.count ∙ by (nat_lt p (parts L.scales)) refl
@@ -62,10 +64,12 @@ module _ {K : ℕ} (shape : Shape) (L : Layout K) (t : Table) (pages : ImagePage
 
   -- and the pages of an image that has each owner's page spell the layout and the table
   module _ (stands : StandsOver shape L t) (has : (o : Owner) → page_in shape pages o ≡ owner_page L t o) where
+    -- it has as many parts
     as-many-parts : length pages.parts_at ≡ parts L.scales
     unfolding page_in
     as-many-parts = same-bound (length pages.parts_at) (parts L.scales) (λ p. sym (some-if (nat_lt p (length pages.parts_at)) (part_in p)) ∙ ap is_some (has (Part p)) ∙ part-named L t p)
 
+    -- each part's page spells the part
     part-is : (p : ℕ) → p < parts L.scales → part_in p ≡ directory_spelling p (directory_part L p)
     unfolding page_in owner_page
     part-is p l = one-value (part_in p) (directory_spelling p (directory_part L p)) (
@@ -78,10 +82,12 @@ module _ {K : ℕ} (shape : Shape) (L : Layout K) (t : Table) (pages : ImagePage
     unfolding page_in
     number-is n = sym (some-if (is_among (numbers_of pages.table) n) (bucket_in n)) ∙ ap is_some (has (Bucket n)) ∙ bucket-named L t n
 
+    -- so the table has the boxes' numbers
     numbers-are : map (λ e. e.0) L.boxes ≡ numbers_of pages.table
     numbers-are = same-numbers (map (λ e. e.0) L.boxes) (numbers_of pages.table) (entries-ascend L.boxes stands.sound.numbered)
         (passing-ascend (λ n. not (slice_index pages.table n == nowhere)) 0 (length pages.table)) (λ q. sym (found-where L.boxes q) ∙ sym (number-is q))
 
+    -- and each bucket's page spells the bucket
     bucket-is : (m : ℕ) (b : BucketBox K) → box L m ≡ Some b → SpellsBucket shape.capacity (bucket_in m) (bucket_on t (m, b))
     unfolding page_in
     bucket-is m b there = bucket-spelled shape L t m b (bucket_in m) stands there (sym (has (Bucket m)) ∙ ap (λ s. cond s (Some (bucket_in m)) None) (number-is m ∙ ap is_some there))
