@@ -14,7 +14,7 @@ use Rattle.grid_model.specs.Lone.{renewed, dropped}
 use Rattle.grid_model.proofs.Boxes.{some-not-none}
 use Rattle.history_pages.specs.OwnerPages.{has_owner}
 use Rattle.history_pages.specs.PageLaws.{IsChange, Follow}
-use Rattle.history_pages.specs.HoldingLaws.{IsHeld, PassesBy, CarriesOn}
+use Rattle.history_pages.specs.HoldingLaws.{IsHeld, PassesBy, StaysHeld, CarriesOn}
 use Rattle.history_pages.proofs.Carried.{same-box, change-carries}
 use Rattle.history_pages.proofs.Changes.{box-there, others-bucket}
 use Rattle.history_pages.proofs.Following.{stands-after}
@@ -94,12 +94,13 @@ follow-held shape L M t s u n e before later h held f = record {
     renewed-then : (o : Owner) → has_owner (renewed L e n) o ≡ has_owner (renewed M e n) o
     renewed-then o = ap (λ x. has_owner x o) (sym (same-renewed L M n e held.layout))
 
+-- what is held stays held
+pub stays-held : {K : ℕ} → StaysHeld K
+stays-held = record { here = held-here; stays = held-past; apart = apart-boxes }
+
 -- what is held carries on
 pub carries-on : {K : ℕ} → CarriesOn K
 carries-on = record {
-  here = held-here;
-  stays = held-past;
-  apart = apart-boxes;
   change = change-carries;
   drops = λ shape L M t s n e held. same-dropped L M n e held.layout;
   renews = λ shape L M t s n e held. same-renewed L M n e held.layout;

@@ -29,14 +29,17 @@ pub record PassesBy {K : ℕ} (shape : Shape) (L : Layout K) (n : LayoutChange) 
   pub apart : (m : ℕ) → IsTrue (is_among (dropped L e n).buckets m) → is_among (dropped M f other).buckets m ≡ false
   pub one_plain : (n ≡ note.Plain) ⊎ (other ≡ note.Plain)
 
--- a change is held where it is planned, and past each other change that passes by it, which takes no more than that no box is dropped by both; where it is held it is a change too, of the same box, it drops and renews the same owners, and each that it renews has the same new page; so pages that follow others by it as it was planned do so where it is held
-pub record CarriesOn (K : ℕ) : Type 0 where
+-- a change is held where it is planned, and stays held past each other change that passes by it; where one of two changes is plain, they drop no bucket in common if they drop no box in common
+pub record StaysHeld (K : ℕ) : Type 0 where
   pub here : (shape : Shape) (L : Layout K) (t : Table) (n : LayoutChange) (e : ℕ × BucketBox K) → StandsOver shape L t → IsHeld shape L t n e L t
   pub stays : (shape : Shape) (L M : Layout K) (t s : Table) (n : LayoutChange) (e : ℕ × BucketBox K) (v : Update K) (other : LayoutChange) (f : ℕ × BucketBox K) → IsHeld shape L t n e M s → PassesBy shape L n e M s v other f
       → IsHeld shape L t n e (after_note_at M f other) (effect s v)
   pub apart : (shape : Shape) (L M : Layout K) (t s : Table) (u : Update K) (n : LayoutChange) (e : ℕ × BucketBox K) (v : Update K) (other : LayoutChange) (f : ℕ × BucketBox K) → IsChange shape L t u n e → IsHeld shape L t n e M s → IsChange shape M s v other f
       → (n ≡ note.Plain) ⊎ (other ≡ note.Plain) → ((m : ℕ) → IsSome (box M m) → IsTrue (is_among (dropped L e n).buckets m) → is_among (dropped M f other).buckets m ≡ false)
       → (m : ℕ) → IsTrue (is_among (dropped L e n).buckets m) → is_among (dropped M f other).buckets m ≡ false
+
+-- where a change is held it is a change too, of the same box; it drops and renews the same owners, and each that it renews has the same new page; so pages that follow others by it as it was planned follow them by it as it is held
+pub record CarriesOn (K : ℕ) : Type 0 where
   pub change : (shape : Shape) (L M : Layout K) (t s : Table) (u : Update K) (n : LayoutChange) (e : ℕ × BucketBox K) → IsChange shape L t u n e → IsHeld shape L t n e M s → IsChange shape M s u n e
   pub drops : (shape : Shape) (L M : Layout K) (t s : Table) (n : LayoutChange) (e : ℕ × BucketBox K) → IsHeld shape L t n e M s → dropped M e n ≡ dropped L e n
   pub renews : (shape : Shape) (L M : Layout K) (t s : Table) (n : LayoutChange) (e : ℕ × BucketBox K) → IsHeld shape L t n e M s → renewed M e n ≡ renewed L e n

@@ -1,6 +1,6 @@
 //! The laws of the pages of owners, as contracts of functions without code.
 ghost use Rattle.history_pages.specs.HistoryLaws.{KeepsContents, MakesLayouts};
-ghost use Rattle.history_pages.specs.HoldingLaws.{CarriesOn};
+ghost use Rattle.history_pages.specs.HoldingLaws.{CarriesOn, StaysHeld};
 ghost use Rattle.history_pages.specs.PageLaws.{KeepsPages};
 ghost use Rattle.history_pages.specs.SpellingLaws.{SpellsLayout};
 
@@ -23,8 +23,9 @@ pub fn content_law<const K: usize>()
     ensures contents { KeepsContents K }
 {}
 
-/// The law of what is held: a change that was planned at one place is one at a later place too, with the same new pages,
-/// where the buckets that it drops are as they were, and so is the layout unless its note is plain.
+/// The law of what is held: a change stays held past each other change that passes by it, and where it is held it is
+/// a change as it was where it was planned, with the same new pages.
 pub fn holding_law<const K: usize>()
-    ensures { CarriesOn K }
+    ensures stays { StaysHeld K }
+    ensures carries { CarriesOn K }
 {}
