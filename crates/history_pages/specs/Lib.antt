@@ -1,0 +1,5 @@
+pub mod OwnerPages
+pub mod PageLaws
+pub mod SpellingLaws
+pub mod HistoryLaws
+pub mod HoldingLaws
