@@ -8,8 +8,7 @@ use Rattle.grid_types.proofs.Places.{table-page, table-page-lies, one-of-two}
 use Rattle.grid_model.specs.Spellings.{RootFields}
 use Rattle.grid_model.specs.Lawful.{IsRootOn, Area, IsAreaOf}
 use Rattle.disk_trait.specs.Disk.{Agrees}
-use Rattle.disk_trait.proofs.Pages.{page_apart, page_written}
-use Rattle.disk_memory.proofs.Ranges.{holds_agrees}
+use Rattle.disk_trait.proofs.Pages.{page_apart, holds_agrees, page_written}
 use Rattle.file_roots.specs.declared.gathering.Gathered.{Gathered}
 use Rattle.file_roots.specs.Gathering.{HasGathered, MayBeGathered, area_in}
 use Rattle.file_roots.proofs.Headers.{header_two}

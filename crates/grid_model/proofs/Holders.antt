@@ -4,7 +4,10 @@ use Rattle.std.specs.Ordering.{eq_by_cmp}
 use Rattle.std.specs.List as lists
 use Rattle.std.specs.FinMap.Entries.{find, is_sorted, below_all}
 use Rattle.grid_types.specs.Regions.{contains}
+use Rattle.std.specs.Option.{option_map_or}
+use Rattle.grid_types.specs.declared.layout_change.LayoutChange.{LayoutChange}
 use Rattle.grid_model.specs.Layouts.{BucketBox, Layout, box, holder}
+use Rattle.grid_model.specs.Notes.{after_note, after_note_at}
 use Rattle.std.specs.Cmp.{nat_cmp_total}
 use Rattle.std.specs.FinMap.{nat_cmp-IsAntisymmetric}
 use Rattle.grid_model.proofs.Ascending.{first-found, behind-found}
@@ -55,3 +58,8 @@ holder-finds k L n b e h = is-found k L.boxes n b e h
 pub holder-box : {K : ℕ} (k : List ℕ) (L : Layout K) (e : ℕ × BucketBox K) → T (is_sorted nat_cmp L.boxes) → holder L k ≡ Some e → (box L e.0 ≡ Some e.1) × (contains e.1.region k ≡ true)
 unfolding holder
 holder-box k L e s q = is-there k L.boxes e s q
+
+-- the note of a request's update is of the box that has its key
+pub after-there : {K : ℕ} (L : Layout K) (k : List ℕ) (e : ℕ × BucketBox K) (n : LayoutChange) → holder L k ≡ Some e → after_note L k n ≡ after_note_at L e n
+unfolding after_note
+after-there L k e n q = ap (λ o. option_map_or (λ x. after_note_at L x n) o L) q

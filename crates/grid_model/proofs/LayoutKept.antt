@@ -121,22 +121,22 @@ put-box {K} shape L t k n h e = by (holder L k) refl e
     by None held e = absurd (some-not-none n (sym e))
     by (Some x) held e = let box-is = holder-box k L x h.sound.numbered held in record { number = x.0; here = x.1; held = held; there = box-is.0; has = box-is.1; noted = e }
 
--- what a put's note says: none of it is cut where the key is there or the box has room, else it is the cut's
-pub data LoggedUpdate {K : ℕ} (shape : Shape) (L : Layout K) (t : Table) (k : List ℕ) (b : BucketBox K) (n : LayoutChange) : Type 0 where
-  There : n ≡ note.Plain → is_some (get t k) ≡ true → LoggedUpdate shape L t k b n
-  HasRoom : n ≡ note.Plain → length (records_inside t b.region) < shape.capacity → LoggedUpdate shape L t k b n
-  IsCut : (c : Cut) → n ≡ cut_note L c → cut shape L.scales b (keys_with t b.region k) ≡ Some c → LoggedUpdate shape L t k b n
+-- the note of a put, by what is the case: none of it is cut where the key is there or the box has room, else it is the cut's
+pub data PutNote {K : ℕ} (shape : Shape) (L : Layout K) (t : Table) (k : List ℕ) (b : BucketBox K) (n : LayoutChange) : Type 0 where
+  There : n ≡ note.Plain → is_some (get t k) ≡ true → PutNote shape L t k b n
+  HasRoom : n ≡ note.Plain → length (records_inside t b.region) < shape.capacity → PutNote shape L t k b n
+  IsCut : (c : Cut) → n ≡ cut_note L c → cut shape L.scales b (keys_with t b.region k) ≡ Some c → PutNote shape L t k b n
 
 -- a note says one of these
-pub noted : {K : ℕ} (shape : Shape) (L : Layout K) (t : Table) (k : List ℕ) (b : BucketBox K) (n : LayoutChange) → put_note_at shape L t k b ≡ Some n → LoggedUpdate shape L t k b n
+pub noted : {K : ℕ} (shape : Shape) (L : Layout K) (t : Table) (k : List ℕ) (b : BucketBox K) (n : LayoutChange) → put_note_at shape L t k b ≡ Some n → PutNote shape L t k b n
 noted {K} shape L t k b n e = by (is_some (get t k)) (nat_lt (length (records_inside t b.region)) shape.capacity) refl refl e
   where
-    of_cut : (o : Option Cut) → cut shape L.scales b (keys_with t b.region k) ≡ o → option_map (cut_note L) o ≡ Some n → LoggedUpdate shape L t k b n
+    of_cut : (o : Option Cut) → cut shape L.scales b (keys_with t b.region k) ≡ o → option_map (cut_note L) o ≡ Some n → PutNote shape L t k b n
     of_cut None is e = absurd (some-not-none n (sym e))
     of_cut (Some c) is e = IsCut c (sym (one-value (cut_note L c) n e)) is
 
     by : (there room : Bool) → is_some (get t k) ≡ there → nat_lt (length (records_inside t b.region)) shape.capacity ≡ room
-        → cond (there || room) (Some note.Plain) (option_map (cut_note L) (cut shape L.scales b (keys_with t b.region k))) ≡ Some n → LoggedUpdate shape L t k b n
+        → cond (there || room) (Some note.Plain) (option_map (cut_note L) (cut shape L.scales b (keys_with t b.region k))) ≡ Some n → PutNote shape L t k b n
     by true room p q e = There (sym (one-value note.Plain n e)) p
     by false true p q e = HasRoom (sym (one-value note.Plain n e)) (ltb-true (length (records_inside t b.region)) shape.capacity q)
     by false false p q e = of_cut (cut shape L.scales b (keys_with t b.region k)) refl e
@@ -146,7 +146,7 @@ pub put-never-merges : {K : ℕ} (shape : Shape) (L : Layout K) (t : Table) (k :
 unfolding put_note
 put-never-merges {K} shape L t k m e = by (holder L k) e
   where
-    no : (b : BucketBox K) → LoggedUpdate shape L t k b (note.Merge m) → ⊥
+    no : (b : BucketBox K) → PutNote shape L t k b (note.Merge m) → ⊥
     no b (There e p) = cc
     no b (HasRoom e p) = cc
     no b (IsCut c e p) = cc
@@ -175,7 +175,7 @@ put-plain {K} shape L t r h is e = kept-layout shape L t (effect t (Put r)) h (t
         let room = h.sound.room n b there in
         omega (arith, same, room)
 
-    room : (n : ℕ) (b : BucketBox K) → box L n ≡ Some b → LoggedUpdate shape L t r.key.numbers p.here note.Plain → length (records_inside (with_data t r.key.numbers r.value) b.region) ≤ shape.capacity
+    room : (n : ℕ) (b : BucketBox K) → box L n ≡ Some b → PutNote shape L t r.key.numbers p.here note.Plain → length (records_inside (with_data t r.key.numbers r.value) b.region) ≤ shape.capacity
     room n b there (There e is) =
         let same = count-put-there (contains b.region) r.key.numbers r.value t h.table is in
         let room = h.sound.room n b there in

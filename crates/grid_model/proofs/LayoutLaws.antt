@@ -23,13 +23,14 @@ use Rattle.grid_model.specs.ScaleLaws.{PartsNumbers}
 use Rattle.grid_model.specs.CutLaws.{CutsBest}
 use Rattle.grid_model.specs.LayoutLaws.{StandsOver, Fits, KeepsSound}
 use Rattle.grid_model.proofs.Found.{one-number, two-numbers}
+use Rattle.grid_model.proofs.Holders.{after-there}
 use Rattle.grid_model.proofs.LeastUnused.{least-unused}
 use Rattle.grid_model.proofs.RegionCounts.{count-put-outside}
 use Rattle.grid_model.proofs.CutRegions.{above-low, up-to-high}
 use Rattle.grid_model.proofs.CutScales.{AreScales, AreAfter, cut-scales, drawn-below, drawn-above}
 use Rattle.grid_model.proofs.CutBoxes.{each-part, split-numbered, length-split, split-covers, split-apart}
 use Rattle.grid_model.proofs.CutParts.{Cuts, cuts}
-use Rattle.grid_model.proofs.LayoutKept.{table-after, its-table, remove-plain, put-plain, put-never-merges, PutBox, put-box, LoggedUpdate, There, HasRoom, IsCut, noted}
+use Rattle.grid_model.proofs.LayoutKept.{table-after, its-table, remove-plain, put-plain, put-never-merges, PutBox, put-box, PutNote, There, HasRoom, IsCut, noted}
 use Rattle.grid_model.proofs.NewLayout.{new-stands}
 
 -- what a list of numbers with one other number has at a place
@@ -153,11 +154,6 @@ module _ {K : ℕ} (numbers : PartsNumbers) (shape : Shape) (L : Layout K) (t : 
     };
   }
 
--- a layout after a note is the one that the box of the key gives
-after-held : {K : ℕ} (L : Layout K) (k : List ℕ) (n : LayoutChange) (e : ℕ × BucketBox K) → holder L k ≡ Some e → after_note L k n ≡ after_note_at L e n
-unfolding after_note
-after-held L k n e held = ap (λ o. option_map_or (λ x. after_note_at L x n) o L) held
-
 -- without a cut or a merge it is the layout as it was
 after-plain : {K : ℕ} (L : Layout K) (k : List ℕ) → after_note L k note.Plain ≡ L
 unfolding after_note
@@ -176,13 +172,13 @@ put-cut {K} numbers best shape L t r c right h lawful e fits = by (noted shape L
     p = put-box shape L t r.key.numbers (note.Cut c right) h e
 
     held : (n : LayoutChange) → after_note L r.key.numbers n ≡ after_note_at L (p.number, p.here) n
-    held n = after-held L r.key.numbers n (p.number, p.here) p.held
+    held n = after-there L r.key.numbers (p.number, p.here) n p.held
 
     stands : (d : Cut) → cut shape L.scales p.here (keys_with t p.here.region r.key.numbers) ≡ Some d → Fits shape (after_note L r.key.numbers (cut_note L d)) → StandsOver shape (after_note L r.key.numbers (cut_note L d)) (effect t (Put r))
     stands d is enough = subst (λ (M : Layout K). StandsOver shape M (effect t (Put r))) (sym (held (cut_note L d)))
         (split-stands numbers shape L t r p.number p.here d h lawful p.there p.has (cuts best shape L.scales p.here t r.key.numbers d h.sound.attributes (h.sound.regions p.number p.here p.there) is) (subst (λ (M : Layout K). Fits shape M) (held (cut_note L d)) enough))
 
-    by : LoggedUpdate shape L t r.key.numbers p.here (note.Cut c right) → StandsOver shape (after_note L r.key.numbers (note.Cut c right)) (effect t (Put r))
+    by : PutNote shape L t r.key.numbers p.here (note.Cut c right) → StandsOver shape (after_note L r.key.numbers (note.Cut c right)) (effect t (Put r))
     by (There same _) = absurd (cc)
     by (HasRoom same _) = absurd (cc)
     by (IsCut d same is) = subst (λ n. StandsOver shape (after_note L r.key.numbers n) (effect t (Put r))) (sym same) (stands d is (subst (λ n. Fits shape (after_note L r.key.numbers n)) same fits))

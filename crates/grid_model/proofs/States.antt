@@ -29,7 +29,7 @@ use Rattle.grid_model.specs.LayoutLaws.{StandsOver, Fits, KeepsSound, IsLeastUnu
 use Rattle.grid_model.specs.LoneLaws.{IsState, IsRequest}
 use Rattle.grid_model.specs.Lone.{record_of, State, free, root, opened, root_if, how_many, renewed, dropped, need, published, claimed, queued, change, change_claimed, done, refused, answered, remove_note, remove_found, put_noted, update_at, update_held, updated, lone}
 use Rattle.grid_model.proofs.Counts.{filter-distinct, among-filter, among-range, range-distinct, sorted-distinct, among-found}
-use Rattle.grid_model.proofs.Holders.{holder-box}
+use Rattle.grid_model.proofs.Holders.{holder-box, after-there}
 use Rattle.grid_model.proofs.Partners.{no-merge-of-put}
 use Rattle.grid_model.proofs.Swapping.{Swaps, IsRooted, plain-swaps, cut-swaps, merge-swaps}
 use Rattle.grid_model.proofs.Truths.{not-true}
@@ -124,11 +124,6 @@ scale-is {K} shape L t a h = by (nat_lt a K) refl
     by : (t : Bool) → nat_lt a K ≡ t → IsTrue (is_scale (scale_of L.scales a))
     by true e = h.scales a (ltb-true a K e)
     by false e = ap is_scale (scale-past L.scales a (omega (arith, ltb-false a K e, h.attributes)))
-
--- the note of a request's update is of the box that has its key
-pub after-there : {K : ℕ} (L : Layout K) (k : List ℕ) (e : ℕ × BucketBox K) (n : LayoutChange) → holder L k ≡ Some e → after_note L k n ≡ after_note_at L e n
-unfolding after_note
-after-there L k e n q = ap (λ o. option_map_or (λ x. after_note_at L x n) o L) q
 
 module _ {K : ℕ} (shape : Shape) where
   -- the note that a remove takes is lawful

@@ -29,7 +29,8 @@ use Rattle.grid_model.specs.LoneLaws.{IsState, IsRequest, lone_trail, MakesHisto
 use Rattle.grid_model.specs.Lone.{State, Outcome, record_of, statistics, boundaries, free, root, root_if, need, published, claimed, queued, change, change_claimed, done, refused, answered, update_reply, remove_note, remove_found, put_noted, update_at, update_held, updated, lone, answers, afterwards, made}
 use Rattle.grid_model.proofs.Boxes.{one-value}
 use Rattle.grid_model.proofs.Prepending.{state-later, layout-later, legal-later, noted-longer, start-state, start-layout}
-use Rattle.grid_model.proofs.States.{after-there, remove-lawful, lone-state, opened-state, free-pages, kept-pages}
+use Rattle.grid_model.proofs.Holders.{after-there}
+use Rattle.grid_model.proofs.States.{remove-lawful, lone-state, opened-state, free-pages, kept-pages}
 use Rattle.grid_model.proofs.NewLayout.{one_cell}
 use Rattle.grid_model.proofs.LayoutKept.{its-table}
 

@@ -78,6 +78,6 @@ impl Geometry {
 }
 
 /// The law of a file's pages: pages that are for different things have different numbers.
-pub fn page_law()
+pub fn page_number_law()
     ensures { AreApart }
 {}

@@ -23,7 +23,7 @@ mod update;
 pub use answer::Answer;
 pub use cell_box::CellBox;
 pub use data::Data;
-pub use geometry::{Geometry, page_law};
+pub use geometry::{Geometry, page_number_law};
 pub use half::Half;
 pub use key::{Key, key_order};
 pub use layout_change::{Cut, LayoutChange, LoggedUpdate};

@@ -10,7 +10,7 @@ use Rattle.grid_model.specs.Lone.{dropped}
 use Rattle.grid_model.specs.Histories.{History, Layouts, front, state_at, layout_at, GoesOn}
 use Rattle.grid_model.specs.TableLaws.{extended}
 use Rattle.grid_model.proofs.Listed.{makes-states}
-use Rattle.grid_model.proofs.States.{after-there}
+use Rattle.grid_model.proofs.Holders.{after-there}
 use Rattle.history_pages.specs.OwnerPages.{has_owner, owner_page}
 use Rattle.history_pages.specs.PageLaws.{IsChange, page_after}
 use Rattle.history_pages.specs.HistoryLaws.{content, extended_notes, NotesGoOn, HasNotes, KeepsContents}

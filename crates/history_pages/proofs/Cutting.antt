@@ -27,7 +27,7 @@ use Rattle.grid_model.proofs.CutBoxes.{each-part, split-numbered, split-covers}
 use Rattle.grid_model.proofs.CutLaws.{cuts-best}
 use Rattle.grid_model.proofs.CutParts.{Cuts, cuts}
 use Rattle.grid_model.proofs.CutRegions.{left-contains}
-use Rattle.grid_model.proofs.LayoutKept.{PutBox, put-box, LoggedUpdate, There, HasRoom, IsCut, noted}
+use Rattle.grid_model.proofs.LayoutKept.{PutBox, put-box, PutNote, There, HasRoom, IsCut, noted}
 use Rattle.grid_model.proofs.LayoutLaws.{merges_only}
 use Rattle.grid_model.proofs.LeastUnused.{least-unused}
 use Rattle.grid_model.proofs.Refining.{parts-grow}
@@ -54,7 +54,7 @@ put-cuts {K} shape L t k e c right stands is holds = subst (λ (x : ℕ × Bucke
     p : PutBox shape L t k (note.Cut c right)
     p = put-box shape L t k (note.Cut c right) stands is
 
-    by : LoggedUpdate shape L t k p.here (note.Cut c right) → CutsBox L p.here c right
+    by : PutNote shape L t k p.here (note.Cut c right) → CutsBox L p.here c right
     by (There same _) = absurd (cc)
     by (HasRoom same _) = absurd (cc)
     by (IsCut d same found) =

@@ -10,7 +10,7 @@ use Rattle.grid_model.specs.Notes.{updated_key, after_note, after_note_at}
 use Rattle.grid_model.specs.Lawful.{IsUpdateOf}
 use Rattle.grid_model.specs.LayoutLaws.{StandsOver, Fits}
 use Rattle.grid_model.specs.Lone.{renewed, dropped}
-use Rattle.grid_model.proofs.States.{after-there}
+use Rattle.grid_model.proofs.Holders.{after-there}
 use Rattle.grid_model.proofs.Together.{sound-layouts}
 use Rattle.history_pages.specs.OwnerPages.{has_owner, owner_page, ImagePages, page_in}
 use Rattle.history_pages.specs.PageLaws.{IsChange, Follow, page_after}

@@ -11,7 +11,7 @@ use Rattle.grid_model.specs.Tables.{Table, IsTable, get, effect}
 use Rattle.grid_model.specs.Layouts.{BucketBox, Layout, holder, records_inside}
 use Rattle.grid_model.specs.Cuts.{cut}
 use Rattle.grid_model.specs.Notes.{put_note, put_note_at, cut_note, keys_with}
-use Rattle.grid_model.proofs.LayoutKept.{LoggedUpdate, There, HasRoom, IsCut, noted}
+use Rattle.grid_model.proofs.LayoutKept.{PutNote, There, HasRoom, IsCut, noted}
 use Rattle.history_pages.proofs.Agreeing.{Agree, same-records, records-after}
 
 -- the note of a put, by the box that has its key
@@ -36,7 +36,7 @@ plain-note {K} shape M L s t k b g h a has is = by (noted shape L t k b note.Pla
     plain : (is_some (get s k) || nat_lt (length (records_inside s b.region)) shape.capacity) ≡ true → put_note_at shape M s k b ≡ Some note.Plain
     plain e = ap (λ t. cond t (Some note.Plain) (option_map (cut_note M) (cut shape M.scales b (keys_with s b.region k)))) e
 
-    by : LoggedUpdate shape L t k b note.Plain → put_note_at shape M s k b ≡ Some note.Plain
+    by : PutNote shape L t k b note.Plain → put_note_at shape M s k b ≡ Some note.Plain
     by (There _ there) = plain (or_left (is_some (get s k)) (nat_lt (length (records_inside s b.region)) shape.capacity) (ap is_some (a k has) ∙ there))
     by (HasRoom _ room) = plain (or_right (is_some (get s k)) (nat_lt (length (records_inside s b.region)) shape.capacity)
         (ap (λ x. nat_lt (length x) shape.capacity) (same-records b.region s t g h a) ∙ lt-ltb (length (records_inside t b.region)) shape.capacity room))
