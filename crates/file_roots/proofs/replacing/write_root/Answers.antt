@@ -1,14 +1,12 @@
 use Rattle.std.proofs.Common.{◌∙◌, sym, subst}
 use Rattle.std.specs.Prelude.{Some}
 use Rattle.std.proofs.lemmas.Result.{on_ok_weaker}
-use Rattle.grid_types.specs.Shapes.{header_page}
-use Rattle.grid_model.specs.Images.{header_gate, IsOtherOlder}
+use Rattle.grid_model.specs.Images.{IsOtherOlder}
 use Rattle.linear_scales.specs.Roots.{root_fields_of, whole_of}
 use Rattle.disk_trait.specs.Calls.{Changes}
-use Rattle.disk_trait.specs.Moments.{Always}
 use Rattle.disk_trait.proofs.Calls.{changes_wider}
 use Rattle.disk_trait.proofs.Moments.{joined, weakened}
-use Rattle.file_roots.specs.Writing.{HasNewFields, IsHeaderWritten, HeaderStep}
+use Rattle.file_roots.specs.Writing.{IsHeaderWritten, HeaderStep}
 use Rattle.file_roots.proofs.Outcomes.{on_err}
 use Rattle.file_roots.proofs.Alone.{area_in_root, older_alone}
 use Rattle.file_roots.proofs.Exchange.{ready_is_replaceable, newest_once_written}
