@@ -168,6 +168,10 @@ header_changes {D} {g} fields {a} {b} law r = record {
     after h c d may (inl one) = (c, may, fields_in_header fields.number c d one)
     after h c d may (inr now) = (g.seen a, law h, now.elsewhere)
 
+-- where the gate of a header page reads other than before, its fields are there in each image that a crash may leave
+abbrev pub FieldsFirst : {D : Type 0} → Ghosts D → D → D → RootFields → Type 0
+FieldsFirst g a b fields = header_gate (g.seen b) (header_page fields.number) ≢ header_gate (g.seen a) (header_page fields.number) → Always (g.may_leave b) (HasNewFields fields (g.seen a))
+
 -- a disk that awaits a root whose table area stands there, while its header page is written
 module _ {D : Type 0} {g : Ghosts D} (s : Shape) (lawful : IsTrue (is_shape s)) (new : WholeRoot) (root : AreRootFields s new.fields) (old : Option WholeRoot) {a b : D} (law : IsTrue (g.honest a) → g.may_leave a (g.seen a)) (r : Changes g (HeaderStep new.fields (g.seen a)) a b)
     (w : Awaits g s new.fields.number old a) (area : HasAreaOf s new (g.seen a)) where
@@ -179,7 +183,7 @@ module _ {D : Type 0} {g : Ghosts D} (s : Shape) (lawful : IsTrue (is_shape s)) 
   replaceable_at_header = weakened g.moment g.left_since a b _ _ (r.moments w.honest) (λ d from. stepped from.0 d from.1 from.2)
 
   -- afterwards it may be tried again
-  pub again_header : (header_gate (g.seen b) (header_page new.fields.number) ≢ header_gate (g.seen a) (header_page new.fields.number) → Always (g.may_leave b) (HasNewFields new.fields (g.seen a))) → MayBeWritten g s new.fields.number old (Some new) b
+  pub again_header : FieldsFirst g a b new.fields → MayBeWritten g s new.fields.number old (Some new) b
   again_header first = record {
     honest = r.honest ∙ w.honest;
     next = w.next;

@@ -4,7 +4,7 @@ use Rattle.grid_types.specs.declared.shape.Shape.{Shape}
 use Rattle.grid_types.specs.Shapes.{header_page}
 use Rattle.grid_model.specs.Spellings.{RootFields, root_bytes}
 use Rattle.grid_model.specs.Images.{header_gate, root_fields}
-use Rattle.grid_model.specs.Roots.{WholeRoot, ComesNext, IsReady, HasOlderOrTried, IsReplaceable}
+use Rattle.grid_model.specs.Roots.{WholeRoot, AreRootFields, HasAreaOf, ComesNext, IsReady, HasOlderOrTried, IsReplaceable}
 use Rattle.disk_trait.specs.declared.disk.Disk.{Ghosts}
 use Rattle.disk_trait.specs.Moments.{Always, LeavesOnly}
 use Rattle.file_roots.specs.Places.{FieldsAlone, HeaderAlone}
@@ -39,6 +39,13 @@ pub record Awaits {D : Type 0} (g : Ghosts D) (s : Shape) (number : ℕ) (old : 
   pub honest : IsTrue (g.honest disk)
   pub next : ComesNext old number
   pub each : Always (g.may_leave disk) (IsReady s number old)
+
+-- a disk awaits the header page of this new root, with these fields, behind the old one: they are lawful, and its table area stands in what reads give
+pub record AwaitsHeader {D : Type 0} (g : Ghosts D) (s : Shape) (fields : RootFields) (old : Option WholeRoot) (new : WholeRoot) (disk : D) : Type 0 where
+  pub fields_are : new.fields ≡ fields
+  pub lawful : AreRootFields s new.fields
+  pub area : HasAreaOf s new (g.seen disk)
+  pub awaits : Awaits g s new.fields.number old disk
 
 -- at each moment of a call the header page of a root of this number may be closed and written
 abbrev pub StaysReplaceable : {D : Type 0} → Ghosts D → Shape → ℕ → (old tried : Option WholeRoot) → D → D → Type 0

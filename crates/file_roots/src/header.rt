@@ -1,16 +1,17 @@
 //! What is written on a header page: the fields of a root, and behind a sync its gate.
-ghost use Rattle.std.specs.Prelude.{◌≡◌, ◌≢◌, ◌≤◌, ◌+◌, ◌*◌, ◌%◌, IsTrue, length, OnOk};
+ghost use Rattle.std.specs.Prelude.{◌≡◌, ◌≢◌, ◌≤◌, ◌+◌, ◌*◌, ◌%◌, Option, Some, IsTrue, length, OnOk, OnErr};
 ghost use Rattle.grid_types.specs.declared.sizes.TheConstants.{PAGE_BYTES};
 ghost use Rattle.grid_types.specs.Shapes.{file_pages, header_page};
 ghost use Rattle.grid_model.specs.Spellings.{root_bytes};
 ghost use Rattle.grid_model.specs.Images.{header_gate, root_fields};
+ghost use Rattle.grid_model.specs.Roots.{WholeRoot, IsNewestWhole};
 ghost use Rattle.root_pages.specs.Fields.{model_fields};
 ghost use Rattle.disk_trait.specs.Calls.{Changes, IsSynced};
 ghost use Rattle.disk_trait.specs.Causes.{HasCause};
 ghost use Rattle.disk_trait.specs.Disk.{Agrees, Holds};
 ghost use Rattle.disk_trait.specs.Moments.{Always};
 ghost use Rattle.file_roots.specs.Places.{FieldsAlone};
-ghost use Rattle.file_roots.specs.Writing.{HasNewFields, IsHeaderWritten, HeaderStep};
+ghost use Rattle.file_roots.specs.Writing.{HasNewFields, IsHeaderWritten, HeaderStep, MayBeWritten, AwaitsHeader, StaysReplaceable};
 
 use disk_trait::{Disk, DiskFailed, write_through};
 use grid_types::{Geometry, PAGE_BYTES};
@@ -77,6 +78,17 @@ pub fn write_header<D: Disk>(
         ≢ header_gate (D.seen disk.old) (header_page fields.now.number)
         → Always (D.may_leave disk.new)
         (HasNewFields (model_fields fields.now) (D.seen disk.old)) }
+    ensures replaceable { (old : Option WholeRoot) (new : WholeRoot)
+        → AwaitsHeader D.Disk geometry.now.shape (model_fields fields.now) old new disk.old
+        → StaysReplaceable D.Disk geometry.now.shape
+        new.fields.number old (Some new) disk.old disk.new }
+    ensures again { (old : Option WholeRoot) (new : WholeRoot)
+        → AwaitsHeader D.Disk geometry.now.shape (model_fields fields.now) old new disk.old
+        → OnErr result (MayBeWritten D.Disk geometry.now.shape
+        new.fields.number old (Some new) disk.new) }
+    ensures newest { (old : Option WholeRoot) (new : WholeRoot)
+        → AwaitsHeader D.Disk geometry.now.shape (model_fields fields.now) old new disk.old
+        → OnOk result (IsNewestWhole geometry.now.shape new (D.seen disk.new)) }
     ensures durable { OnOk result (IsSynced D.Disk disk.new) }
     ensures cause { HasCause (D.write_count disk.old) (D.write_count disk.new) result }
 {

@@ -1,4 +1,4 @@
-use Rattle.std.proofs.Common.{◌≡◌, ◌∙◌, ℕ, sym, ap}
+use Rattle.std.proofs.Common.{◌≡◌, ◌∙◌, ℕ, sym, subst}
 use Rattle.grid_types.specs.declared.refusal.Refusal.TheVariants.{Damaged}
 use Rattle.grid_types.specs.Pages.{page_of}
 use Rattle.grid_types.specs.Shapes.{header_page, table_page}
@@ -19,7 +19,7 @@ returns-in-Ok-true-clause-gathers g c =
       gathered = λ h had.
           let at : c.into.result ≡ table_page c.args.geometry.now.shape (header_page c.args.fields.now.number) c.args.i = c.into.ensures ∙ c.table_page-number.ensures.value in
           let bytes : page ≡ page_of c.into.result seen = c.in_ok-read_page.ensures.bytes h in
-          let here : page_of (table_page s (header_page c.args.fields.now.number) c.args.i) seen ≡ page = ap (λ (n : ℕ). page_of n seen) (sym at) ∙ sym bytes in
+          let here : page_of (table_page s (header_page c.args.fields.now.number) c.args.i) seen ≡ page = subst (λ (n : ℕ). page_of n seen ≡ page) at (sym bytes) in
           taken.gathered seen here had c.in-Ok-true.field-0-test;
       lawful = λ may. record {
         image = next_file s r lawful c.args.i c.requires.inside c.args.gathered.now page c.read_page.array_long may;

@@ -1,18 +1,16 @@
-use Rattle.std.proofs.Common.{◌≢◌, ◌∙◌, IsTrue, subst}
+use Rattle.std.proofs.Common.{◌∙◌, sym, subst}
 use Rattle.std.specs.Prelude.{Some}
 use Rattle.std.proofs.lemmas.Result.{on_ok_weaker}
-use Rattle.grid_types.specs.Shapes.{header_page}
-use Rattle.grid_model.specs.Images.{header_gate, IsOtherOlder}
+use Rattle.grid_model.specs.Images.{IsOtherOlder}
 use Rattle.linear_scales.specs.Roots.{root_fields_of, whole_of}
 use Rattle.disk_trait.specs.Calls.{Changes}
-use Rattle.disk_trait.specs.Moments.{Always}
 use Rattle.disk_trait.proofs.Calls.{changes_wider}
 use Rattle.disk_trait.proofs.Moments.{joined, weakened}
-use Rattle.file_roots.specs.Writing.{HasNewFields, IsHeaderWritten, HeaderStep}
+use Rattle.file_roots.specs.Writing.{IsHeaderWritten, HeaderStep}
 use Rattle.file_roots.proofs.Outcomes.{on_err}
 use Rattle.file_roots.proofs.Alone.{area_in_root, older_alone}
 use Rattle.file_roots.proofs.Exchange.{ready_is_replaceable, newest_once_written}
-use Rattle.file_roots.proofs.Sections.{may_again, replaceable_at_header, again_header, root_changes}
+use Rattle.file_roots.proofs.Sections.{may_again, root_changes}
 use Rattle.file_roots.proofs.replacing.write_root.Goals as goal
 
 pub returns-in_err-write_area-clause-replaceable : goal.returns-in_err-write_area-clause-replaceable
@@ -31,23 +29,15 @@ returns-clause-replaceable g c = λ old w.
     let s = c.args.geometry.now.shape in
     let new = whole_of c.args.root.now in
     let first = c.in_ok-write_area.ensures in
-    let mid = c.write_area.new.disk in
-    let end = c.write_header.new.disk in
-    let step = subst (λ f. Changes g.D.Disk (HeaderStep f (g.D.Disk.seen mid)) mid end) c.header_of.ensures c.write_header.ensures.changes in
-    joined g.D.Disk.moment g.D.Disk.left_since c.args.disk.now mid end _ _ _ (first.ready old w)
-    (replaceable_at_header s c.args.geometry.now.lawful new c.requires.root.fields old (g.met.D.Disk.seen_now mid) step (first.awaits old w) (first.written w.honest))
+    joined g.D.Disk.moment g.D.Disk.left_since c.args.disk.now c.write_area.new.disk c.write_header.new.disk _ _ _ (first.ready old w)
+    (c.write_header.ensures.replaceable old new (record { fields_are = sym c.header_of.ensures; lawful = c.requires.root.fields; area = first.written w.honest; awaits = first.awaits old w }))
     (λ i ready. ready_is_replaceable s new.fields.number old (Some new) i ready) (λ i is. is)
 
 pub returns-clause-again : goal.returns-clause-again
 returns-clause-again g c = λ old w.
-    let s = c.args.geometry.now.shape in
     let new = whole_of c.args.root.now in
     let first = c.in_ok-write_area.ensures in
-    let mid = c.write_area.new.disk in
-    let end = c.write_header.new.disk in
-    let step = subst (λ f. Changes g.D.Disk (HeaderStep f (g.D.Disk.seen mid)) mid end) c.header_of.ensures c.write_header.ensures.changes in
-    let fields_first = subst (λ f. IsTrue (g.D.Disk.honest mid) → header_gate (g.D.Disk.seen end) (header_page f.number) ≢ header_gate (g.D.Disk.seen mid) (header_page f.number) → Always (g.D.Disk.may_leave end) (HasNewFields f (g.D.Disk.seen mid))) c.header_of.ensures c.write_header.ensures.fields_first in
-    on_err c.write_header.result (again_header s c.args.geometry.now.lawful new c.requires.root.fields old (g.met.D.Disk.seen_now mid) step (first.awaits old w) (first.written w.honest) (fields_first (first.changes.honest ∙ w.honest)))
+    c.write_header.ensures.again old new (record { fields_are = sym c.header_of.ensures; lawful = c.requires.root.fields; area = first.written w.honest; awaits = first.awaits old w })
 
 pub returns-clause-newest : goal.returns-clause-newest
 returns-clause-newest g c = λ h other.
