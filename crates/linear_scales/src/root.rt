@@ -1,7 +1,6 @@
 //! What a root says.
-use grid_types::PageList;
-
 use crate::scales::Scales;
+use grid_types::PageList;
 
 /// Stands in a bucket table where no bucket has the number.
 pub const NOWHERE: u32 = u32::MAX;
