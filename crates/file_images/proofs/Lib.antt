@@ -6,3 +6,4 @@ pub mod Named
 pub mod Standing
 pub mod Undamaged
 pub mod Staying
+mod Rows
