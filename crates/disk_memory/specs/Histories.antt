@@ -14,7 +14,7 @@ abbrev pub recorded_of : Inside → Recorded
 recorded_of h = record { past = past_of h; room = h.spare }
 
 -- a history is one of a disk: each write lies inside it, and there is room for the failed writes that are to come, for a sync behind each, and for one where not all is on the disk
-pub record IsHistory (h : Inside) : Type 0 where
+pub record IsDiskHistory (h : Inside) : Type 0 where
   pub inside : All (λ e. LiesInside (length h.first.items) (change_of e)) h.events.items
   pub clean : h.is_clean ≡ true → (contents_now (past_of h)).dirty ≡ []
   pub spare : vec_len h.events + 2 * h.spare ≤ vec_capacity h.events

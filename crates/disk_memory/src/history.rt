@@ -38,11 +38,11 @@ impl Model for DiskHistory {
 
     ghost Value = { Recorded };
 
-    ghost use Rattle.disk_memory.specs.Histories.{recorded_of, IsHistory};
+    ghost use Rattle.disk_memory.specs.Histories.{recorded_of, IsDiskHistory};
 
     ghost view = { recorded_of };
 
-    ghost invariant = { IsHistory };
+    ghost invariant = { IsDiskHistory };
 }
 
 /// Makes room for so many failed writes and for one event more, each with a sync behind it, and for a sync before them.
