@@ -6,7 +6,7 @@ ghost use Rattle.grid_types.specs.Shapes.{area_pages, file_pages};
 ghost use Rattle.grid_model.specs.Scales.{scale_of};
 ghost use Rattle.grid_model.specs.Images.{area_spelling, half_of_scale};
 ghost use Rattle.linear_scales.specs.Limited.{scales_of};
-ghost use Rattle.disk_trait.specs.Calls.{Changes, IsSynced};
+ghost use Rattle.disk_trait.specs.Calls.{Changes};
 ghost use Rattle.disk_trait.specs.Causes.{HasCause};
 ghost use Rattle.grid_model.specs.Roots.{WholeRoot, HasAreaOf};
 ghost use Rattle.linear_scales.specs.Roots.{area_of, whole_of, IsRoot};
@@ -100,28 +100,7 @@ pub fn write_area_page<const K: usize, D: Disk>(
     disk.write(at, &page)
 }
 
-/// Writes each page of the table area of the root. They are on the disk after the next sync.
-fn write_area_pages<const K: usize, D: Disk>(
-    disk: &mut D,
-    geometry: &Geometry,
-    root: &Root<K>,
-) -> Result<(), DiskFailed>
-    requires attributes { geometry.now.shape.k ≡ K }
-    requires root { IsRoot geometry.now.shape root.now }
-    requires size { file_pages geometry.now.shape * PAGE_BYTES ≤ D.extent disk.old }
-    ensures written { IsTrue (D.honest disk.old)
-        → OnOk result (HasAreaOf geometry.now.shape (whole_of root.now) (D.seen disk.new)) }
-    ensures changes { Changes D.Disk
-        (AreaAlone geometry.now.shape root.now.number) disk.old disk.new }
-    ensures cause { HasCause (D.write_count disk.old) (D.write_count disk.new) result }
-{
-    for i in 0..geometry.area_pages() {
-        write_area_page(disk, geometry, root, i)?;
-    }
-    Ok(())
-}
-
-/// Writes the whole table area of the root, and syncs. Its header page was closed before, and is written next.
+/// Writes the whole table area of the root. It is on the disk after the next sync, as that of its header page's fields.
 pub fn write_area<const K: usize, D: Disk>(
     disk: &mut D,
     geometry: &Geometry,
@@ -132,7 +111,6 @@ pub fn write_area<const K: usize, D: Disk>(
     requires size { file_pages geometry.now.shape * PAGE_BYTES ≤ D.extent disk.old }
     ensures written { IsTrue (D.honest disk.old)
         → OnOk result (HasAreaOf geometry.now.shape (whole_of root.now) (D.seen disk.new)) }
-    ensures durable { OnOk result (IsSynced D.Disk disk.new) }
     ensures changes { Changes D.Disk
         (AreaAlone geometry.now.shape root.now.number) disk.old disk.new }
     ensures awaits { (old : Option WholeRoot)
@@ -143,6 +121,8 @@ pub fn write_area<const K: usize, D: Disk>(
         → StaysReady D.Disk geometry.now.shape root.now.number old disk.old disk.new }
     ensures cause { HasCause (D.write_count disk.old) (D.write_count disk.new) result }
 {
-    write_area_pages(disk, geometry, root)?;
-    disk.sync()
+    for i in 0..geometry.area_pages() {
+        write_area_page(disk, geometry, root, i)?;
+    }
+    Ok(())
 }

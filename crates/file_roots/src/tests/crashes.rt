@@ -6,7 +6,7 @@ use super::*;
 use disk_memory::{Fused, Keep};
 
 /// Whether the writing of roots 1 and 2 behind root 0, cut off after so many calls, leaves the newest root that was
-/// answered, or the next. Root 1 takes 17 calls, and root 2 takes 18, since it closes an open gate.
+/// answered, or the next. Root 1 takes 16 calls, and root 2 takes 17, since it closes an open gate.
 fn is_old_or_new<L: Ledger>(
     alloc: Global,
     geometry: &Geometry,
@@ -28,7 +28,7 @@ fn is_old_or_new<L: Ledger>(
     done += u64::from(replace(&mut disk, geometry, &root, steps));
     let mut image = disk.image(keep)?;
     let told = told(alloc, &mut image, geometry, steps).number;
-    let due = u64::from(calls >= 17) + u64::from(calls >= 35);
+    let due = u64::from(calls >= 16) + u64::from(calls >= 33);
     Ok(done == due && told <= 2 && (told == done || told == done + 1))
 }
 
@@ -36,7 +36,7 @@ fn is_old_or_new<L: Ledger>(
 pub fn leaves_a_root<L: Ledger>(alloc: Global, steps: &mut Steps<L>) -> Result<bool, AllocError> {
     let geometry = small();
     let mut all = true;
-    for calls in 0..37 {
+    for calls in 0..35 {
         all &= is_old_or_new(alloc, &geometry, calls, Keep::All, steps)?;
         all &= is_old_or_new(alloc, &geometry, calls, Keep::None, steps)?;
         all &= is_old_or_new(alloc, &geometry, calls, Keep::Changed, steps)?;
@@ -77,7 +77,7 @@ fn is_old_or_tried<L: Ledger>(
 
 /// Calls that the first attempt fails at, and after which the second is cut off: of closing, of the table area, of the
 /// fields, and of opening.
-const CALLS: [u64; 6] = [3, 9, 14, 16, 17, 18];
+const CALLS: [u64; 6] = [3, 9, 13, 15, 16, 17];
 
 /// Whether that holds at each two of these calls, where what is not on the disk is lost, or torn.
 pub fn may_be_tried_again<L: Ledger>(

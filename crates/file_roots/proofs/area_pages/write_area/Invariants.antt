@@ -5,7 +5,7 @@ use Rattle.disk_trait.specs.Calls.{Changes}
 use Rattle.linear_scales.specs.Roots.{area_of}
 use Rattle.grid_types.specs.Ranges.{own_page}
 use Rattle.file_roots.specs.Places.{AreaAlone}
-use Rattle.file_roots.proofs.area_pages.write_area_pages.Given as goal
+use Rattle.file_roots.proofs.area_pages.write_area.Given as goal
 
 abbrev pub invariant-loop-i : goal.invariant-loop-i
 invariant-loop-i g l = record {
