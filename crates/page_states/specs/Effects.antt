@@ -1,0 +1,57 @@
+-- What each call makes of the states.
+use Rattle.std.specs.Prelude.{◌≡◌, ◌&&◌, ◌<◌, ◌≤◌, ℕ, ◌+◌, Bool, true, false, not, cond, List, [], ◌∷◌, Option, Some, None, fold, map, length, slice_get, slice_set, slice_index}
+use Rattle.grid_types.specs.declared.owner.Owner.{Owner}
+use Rattle.page_states.specs.declared.page_state.PageState.{PageState}
+use Rattle.page_states.specs.declared.page_state.PageState.TheVariants.{Free, Claimed, Live}
+use Rattle.grid_types.specs.Owners.{same_owner}
+use Rattle.page_states.specs.States.{is_free, is_claimed_by, is_replaced, is_kept, shows}
+
+-- the numbers of the free pages, ascending, where the first page has this number
+abbrev pub free_from : ℕ → List PageState → List ℕ
+free_from n [] = []
+free_from n (x ∷ xs) = cond (is_free x) (n ∷ free_from (n + 1) xs) (free_from (n + 1) xs)
+
+-- the numbers of the free pages, ascending
+abbrev pub free_pages : List PageState → List ℕ
+free_pages states = free_from 0 states
+
+-- one page is claimed by the seat
+abbrev pub claim_one : ℕ → List PageState → ℕ → List PageState
+claim_one seat states p = slice_set states p (Claimed seat)
+
+-- each of these pages is claimed by the seat
+abbrev pub claim_all : ℕ → List ℕ → List PageState → List PageState
+claim_all seat pages states = fold (claim_one seat) states pages
+
+-- the owner's current page is replaced at a place, and each other page is as it was
+abbrev pub ended : Owner → ℕ → PageState → PageState
+ended owner at Free = Free
+ended owner at (Claimed s) = Claimed s
+ended owner at (Live o from None) = cond (same_owner o owner) (Live o from (Some at)) (Live o from None)
+ended owner at (Live o from (Some to)) = Live o from (Some to)
+
+-- the owner's page of before is replaced, and the page is the owner's from the place on
+abbrev pub published : ℕ → Owner → ℕ → List PageState → List PageState
+published page owner at states = slice_set (map (ended owner at) states) page (Live owner at None)
+
+-- a page that passes the test is free, and each other page is as it was
+abbrev pub freed : (PageState → Bool) → PageState → PageState
+freed test x = cond (test x) Free x
+
+-- a replaced page that is current at none of the places
+abbrev pub is_gone : List ℕ → PageState → Bool
+is_gone places x = is_replaced x && not (is_kept places x)
+
+-- a replaced page that is current at a root's place and at none of the pins
+abbrev pub is_of_roots : List ℕ → List ℕ → PageState → Bool
+is_of_roots pins roots x = is_replaced x && (is_kept roots x && not (is_kept pins x))
+
+-- no page of the list from an index on passes the test
+abbrev pub NoneFrom : (PageState → Bool) → List PageState → List ℕ → ℕ → Type 0
+NoneFrom test states list at = (j : ℕ) (x : PageState) → at ≤ j → j < length list → slice_get states (slice_index list j) ≡ Some x → test x ≡ false
+
+-- the page is the owner's at the place
+pub record Shows (owner : Owner) (place : ℕ) (states : List PageState) (p : ℕ) : Type 0 where
+  pub state : PageState
+  pub there : slice_get states p ≡ Some state
+  pub shown : shows owner place state ≡ true

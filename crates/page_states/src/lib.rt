@@ -1,0 +1,18 @@
+//! The state of each data page: free, claimed by a seat, or live, the page of an owner from a place on.
+#![tactic(auto)]
+
+mod claiming;
+mod free_pages;
+mod freeing;
+mod laws;
+mod numbers;
+mod page_state;
+mod publishing;
+mod reading;
+mod slot;
+mod states;
+mod table;
+
+pub use laws::{counted_pages, kept_places, new_place};
+pub use page_state::PageState;
+pub use states::PageStates;

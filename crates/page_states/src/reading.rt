@@ -1,0 +1,87 @@
+//! What the states say of an owner and of a seat.
+ghost use Rattle.std.specs.Prelude.{◌≡◌, ◌<◌, ◌≤◌, ◌^◌, ℕ, length, true, false, Some, None, IfSome, IfNone, slice_get};
+ghost use Rattle.std.specs.List.{count_by, list_any};
+ghost use Rattle.page_states.specs.declared.page_state.PageState.{PageState};
+ghost use Rattle.page_states.specs.declared.page_state.PageState.TheVariants.{Live};
+ghost use Rattle.page_states.specs.States.{is_free, is_claimed_by, is_replaced, number_of, shows};
+ghost use Rattle.page_states.specs.Effects.{Shows};
+ghost use Rattle.page_states.specs.Tables.{IsTable};
+
+use crate::numbers::number_at;
+use crate::page_state::shows;
+use crate::publishing::current_page;
+use crate::table::{Table, state_at};
+use crate::PageState;
+use grid_types::Owner;
+
+/// How many pages are free.
+pub(crate) fn free_count(table: &Table) -> u32
+    requires { IsTable table.now }
+    ensures { result ≡ count_by is_free table.now.states.items }
+{
+    table.free as u32
+}
+
+/// The current page of an owner, if it began at the place or before.
+fn newest_page_at(table: &Table, owner: Owner, place: u64) -> Option<u32>
+    requires table { IsTable table.now }
+    requires known { number_of owner < length table.now.states.items }
+    ensures found { IfSome result (λ p. Shows owner place table.now.states.items p) }
+    ensures none { IfNone result ((p from : ℕ) → slice_get table.now.states.items p ≡ Some (Live owner from None) → place < from) }
+{
+    let Some(found) = current_page(table, owner) else {
+        return None;
+    };
+    let begun = found.1 <= place;
+    if begun {
+        return Some(found.0);
+    }
+    None
+}
+
+/// A replaced page of an owner that was current at the place.
+fn old_page_at(table: &Table, owner: Owner, place: u64) -> Option<u32>
+    requires { IsTable table.now }
+    ensures found { IfSome result (λ p. Shows owner place table.now.states.items p) }
+    ensures none { IfNone result ((p : ℕ) (x : PageState) → slice_get table.now.states.items p ≡ Some x → is_replaced x ≡ true → shows owner place x ≡ false) }
+{
+    for at in 0..table.replaced.len() {
+        let page = number_at(&table.replaced, at);
+        if let Some(state) = state_at(&table.states, page) {
+            let shown = shows(owner, place, state);
+            if shown {
+                return Some(page);
+            }
+        }
+    }
+    None
+}
+
+/// The page of an owner that is or was current at the place.
+pub(crate) fn page_of(table: &Table, owner: Owner, place: u64) -> Option<u32>
+    requires table { IsTable table.now }
+    requires known { number_of owner < length table.now.states.items }
+    ensures found { IfSome result (λ p. Shows owner place table.now.states.items p) }
+    ensures none { IfNone result ((p : ℕ) (x : PageState) → slice_get table.now.states.items p ≡ Some x → shows owner place x ≡ false) }
+{
+    if let Some(page) = newest_page_at(table, owner, place) {
+        return Some(page);
+    }
+    old_page_at(table, owner, place)
+}
+
+/// Whether a seat has a claimed page.
+pub(crate) fn has_claims(table: &Table, seat: u32) -> bool
+    requires { IsTable table.now }
+    ensures { result ≡ list_any (is_claimed_by seat) table.now.states.items }
+{
+    for at in 0..table.claimed.len() {
+        let page = number_at(&table.claimed, at);
+        if let Some(PageState::Claimed { seat: other }) = state_at(&table.states, page) {
+            if other == seat {
+                return true;
+            }
+        }
+    }
+    false
+}

@@ -1,0 +1,116 @@
+//! The states of the pages as one value: a list of them, by page number.
+ghost use Rattle.std.specs.Prelude.{◌≡◌, ◌≤◌, ◌<◌, ℕ, length, map, take, replicate, true, false, Some, IfOk, IfSome, IfNone, slice_get};
+ghost use Rattle.std.specs.List.{count_by, list_any};
+ghost use Rattle.page_states.specs.declared.page_state.PageState.{PageState};
+ghost use Rattle.page_states.specs.declared.page_state.PageState.TheVariants.{Free, Claimed};
+ghost use Rattle.page_states.specs.States.{is_free, is_claimed_by, number_of, shows};
+ghost use Rattle.page_states.specs.Effects.{free_pages, claim_all, ended, published, freed, is_gone, is_of_roots, Shows};
+
+use crate::claiming::claim_lowest;
+use crate::freeing::{give_back_all, has_roots_page, sweep_all};
+use crate::publishing::{end_page, publish_page};
+use crate::reading::{free_count, has_claims, page_of};
+use crate::table::Table;
+use grid_types::Owner;
+use std::alloc::{AllocError, Global};
+use std::marker::Model;
+
+/// The state of each page.
+#[derive(Drop)]
+pub struct PageStates {
+    table: Table,
+}
+
+impl Model for PageStates {
+    ghost use Rattle.std.specs.Prelude.{List};
+    ghost use Rattle.page_states.specs.declared.page_state.PageState.{PageState};
+    ghost use Rattle.page_states.specs.Tables.{IsTable};
+
+    ghost Value = { List PageState };
+
+    ghost view = { λ s. s.table.states.items };
+
+    ghost invariant = { λ s. IsTable s.table };
+}
+
+impl PageStates {
+    /// That many free pages. All memory that is ever needed is taken here.
+    pub fn new(alloc: Global, pages: u32) -> Result<PageStates, AllocError>
+        requires { pages ≤ 65536 }
+        ensures { IfOk result (λ s. s ≡ replicate pages Free) }
+    {
+        Ok(PageStates {
+            table: Table::new(alloc, pages)?,
+        })
+    }
+
+    /// How many pages are free.
+    pub fn free(&self) -> u32
+        ensures { result ≡ count_by is_free self.now }
+    {
+        free_count(&self.table)
+    }
+
+    /// The seat claims the free pages of the least numbers, as many as there are places in `out`.
+    pub fn claim(&mut self, seat: u32, out: &mut [u32])
+        requires { length out.old ≤ count_by is_free self.old }
+        ensures pages { out.new ≡ take (length out.old) (free_pages self.old) }
+        ensures states { self.new ≡ claim_all seat out.new self.old }
+    {
+        claim_lowest(&mut self.table, seat, out);
+    }
+
+    /// A claimed page becomes the owner's current one from a place on, and the owner's page of before ends there.
+    pub fn publish(&mut self, page: u32, owner: Owner, at: u64)
+        requires known { number_of owner < length self.old }
+        requires claimed { (seat : ℕ) × (slice_get self.old page ≡ Some (Claimed seat)) }
+        ensures { self.new ≡ published page owner at self.old }
+    {
+        publish_page(&mut self.table, page, owner, at);
+    }
+
+    /// The owner has no page from a place on.
+    pub fn vanish(&mut self, owner: Owner, at: u64)
+        requires { number_of owner < length self.old }
+        ensures { self.new ≡ map (ended owner at) self.old }
+    {
+        end_page(&mut self.table, owner, at);
+    }
+
+    /// Each page that the seat has claimed is free.
+    pub fn give_back(&mut self, seat: u32)
+        ensures { self.new ≡ map (freed (is_claimed_by seat)) self.old }
+    {
+        give_back_all(&mut self.table, seat);
+    }
+
+    /// Whether the seat has a claimed page.
+    pub fn claimed(&self, seat: u32) -> bool
+        ensures { result ≡ list_any (is_claimed_by seat) self.now }
+    {
+        has_claims(&self.table, seat)
+    }
+
+    /// The page of an owner that is or was current at a place.
+    pub fn page_at(&self, owner: Owner, place: u64) -> Option<u32>
+        requires { number_of owner < length self.now }
+        ensures found { IfSome result (λ p. Shows owner place self.now p) }
+        ensures none { IfNone result ((p : ℕ) (x : PageState) → slice_get self.now p ≡ Some x → shows owner place x ≡ false) }
+    {
+        page_of(&self.table, owner, place)
+    }
+
+    /// Each replaced page that is current at none of the places is free.
+    pub fn sweep(&mut self, places: &[u64])
+        ensures { self.new ≡ map (freed (is_gone places.now)) self.old }
+    {
+        sweep_all(&mut self.table, places);
+    }
+
+    /// Whether a page would be free if the roots' places were not kept, but the pins.
+    pub fn would_free(&self, pins: &[u64], roots: &[u64]) -> bool
+        ensures { result ≡ list_any (is_of_roots pins.now roots.now) self.now }
+    {
+        has_roots_page(&self.table, pins, roots)
+    }
+}
