@@ -9,8 +9,8 @@ use Rattle.page_states.specs.declared.page_state.PageState.{PageState}
 use Rattle.page_states.specs.declared.page_state.PageState.TheVariants.{Free, Claimed, Live}
 use Rattle.grid_types.specs.Owners.{same_owner}
 use Rattle.page_states.specs.States.{is_replaced, is_claimed_by, is_current_at, is_kept, shows}
-use Rattle.page_states.specs.Effects.{claim_one, ended, published, freed, is_gone}
-use Rattle.page_states.specs.Laws.{Keeps, PublicationKeeps, VanishingKeeps, SweepKeeps, GivingBackKeeps, ClaimKeeps}
+use Rattle.page_states.specs.Effects.{ended, published, freed, is_gone}
+use Rattle.page_states.specs.Laws.{Keeps, PublicationKeeps, VanishingKeeps, SweepKeeps, GivingBackKeeps}
 use Rattle.page_states.proofs.Frees.{gone_no}
 use Rattle.page_states.proofs.Shown.{second_holds, same_keeps, map_same, set_same, ended_before, later_unseen}
 
@@ -25,9 +25,6 @@ publication_keeps page seat at place owner states low has = same_keeps place sta
 
 pub vanishing_keeps : VanishingKeeps
 vanishing_keeps at place owner states low = same_keeps place states (map (ended owner at) states) (λ o q. map_same (shows o place) (ended owner at) states q (ended_before o owner at place low))
-
-pub claim_keeps_places : ClaimKeeps
-claim_keeps_places seat place page states has = same_keeps place states (claim_one seat states page) (λ o q. set_same (shows o place) states page Free (Claimed seat) q has refl)
 
 given_unseen : (o : Owner) (seat place : ℕ) (x : PageState) → shows o place (freed (is_claimed_by seat) x) ≡ shows o place x
 given_unseen o seat place Free = refl

@@ -1,5 +1,5 @@
 -- There are as many current pages as owners.
-use Rattle.std.proofs.Common.{◌≡◌, ◌⊎◌, inl, inr, ℕ, zero, suc, ◌+◌, ◌<◌, ◌≤◌, List, [], ◌∷◌, Bool, true, false, ◌&&◌, cond, Option, Some, None, refl, sym, ◌∙◌, ap, length, get_or, arith}
+use Rattle.std.proofs.Common.{◌≡◌, ◌⊎◌, inl, inr, ℕ, zero, suc, ◌+◌, ◌<◌, ◌≤◌, List, [], ◌∷◌, Bool, true, false, ◌&&◌, cond, Option, Some, None, refl, sym, ◌∙◌, ap, map, length, get_or, arith}
 use Rattle.std.specs.Prelude.{slice_get, is_some, nat_le}
 use Rattle.std.specs.List.{count_by, sum_by}
 use Rattle.std.proofs.lemmas.Bool.{le-leb, le-ltb}
@@ -9,10 +9,12 @@ use Rattle.page_states.specs.declared.page_state.PageState.{PageState}
 use Rattle.page_states.specs.declared.page_state.PageState.TheVariants.{Free, Claimed, Live}
 use Rattle.page_states.specs.Counts.{once}
 use Rattle.grid_types.specs.Owners.{same_owner}
-use Rattle.page_states.specs.States.{is_current, shows}
-use Rattle.page_states.specs.Laws.{Serves, Settled, CurrentPagesAreOwners}
+use Rattle.page_states.specs.States.{is_free, is_claimed, is_current, shows}
+use Rattle.page_states.specs.Laws.{Serves, Settled, CurrentPagesAreOwners, FreePagesAreCounted, is_of_root}
 use Rattle.page_states.proofs.Endings.{same_owner_refl}
+use Rattle.page_states.specs.Effects.{freed, is_gone}
 use Rattle.page_states.proofs.Shown.{and_false}
+use Rattle.page_states.proofs.CountedPages.{sweep_leaves_the_root}
 
 -- a sum of ones is the length
 sum_ones : (f : Owner → ℕ) (os : List Owner) → ((i : ℕ) (d : Owner) → i < length os → f (get_or os i d) ≡ 1) → sum_by f os ≡ length os
@@ -103,3 +105,9 @@ pub current_pages_are_owners : CurrentPagesAreOwners
 current_pages_are_owners content bytes front states owners settled served listed =
     sym (swapped front owners states (shown_once content bytes front states owners settled served listed))
     ∙ sum_ones (λ o. count_by (shows o front) states) owners (each_once content bytes front states owners settled served listed)
+
+pub free_pages_are_counted : FreePagesAreCounted
+free_pages_are_counted content bytes front root states owners settled served listed =
+    let all : count_by is_free (map (freed (is_gone (root ∷ []))) states) + count_by is_current states + count_by (is_of_root root) states + count_by is_claimed states ≡ length states = sweep_leaves_the_root root states in
+    let owned : count_by is_current states ≡ length owners = current_pages_are_owners content bytes front states owners settled served listed in
+    omega (arith, all, owned)

@@ -60,7 +60,7 @@ front_serves content bytes front at states later settled served =
     }
 
 -- another owner's page shows the same after an end
-ended_of_other : (o owner : Owner) (at place : ℕ) → same_owner o owner ≡ false → (x : PageState) → shows o place (ended owner at x) ≡ shows o place x
+pub ended_of_other : (o owner : Owner) (at place : ℕ) → same_owner o owner ≡ false → (x : PageState) → shows o place (ended owner at x) ≡ shows o place x
 ended_of_other o owner at place apart Free = refl
 ended_of_other o owner at place apart (Claimed s) = refl
 ended_of_other o owner at place apart (Live w from (Some to)) = refl
@@ -83,7 +83,7 @@ ended_of_other o owner at place apart (Live w from None) = by (same_owner w owne
         ∙ ap (λ (b : Bool). b && is_current_at place (Live w from None)) (sym (unseen e))
 
 -- after its end the owner's own page is not shown at that place
-own_unseen : (owner : Owner) (at : ℕ) (x : PageState) → ((w : Owner) (from to : ℕ) → x ≡ Live w from (Some to) → to ≤ at) → shows owner at (ended owner at x) ≡ false
+pub own_unseen : (owner : Owner) (at : ℕ) (x : PageState) → ((w : Owner) (from to : ℕ) → x ≡ Live w from (Some to) → to ≤ at) → shows owner at (ended owner at x) ≡ false
 own_unseen owner at Free over = refl
 own_unseen owner at (Claimed s) over = refl
 own_unseen owner at (Live w from (Some to)) over =

@@ -1,5 +1,5 @@
 -- What the calls keep: at each kept place each owner has one current page, and pages are counted.
-use Rattle.std.specs.Prelude.{◌≡◌, ◌&&◌, ◌<◌, ◌≤◌, ◌+◌, ℕ, Bool, true, cond, is_some, List, [], ◌∷◌, Option, Some, None, map, length, slice_get, Contains}
+use Rattle.std.specs.Prelude.{◌≡◌, ◌&&◌, ◌<◌, ◌≤◌, ◌+◌, ℕ, Bool, true, cond, is_some, List, [], ◌∷◌, Option, Some, None, map, take, replicate, length, slice_get, slice_index, Contains}
 use Rattle.std.specs.List.{count_by}
 use Rattle.grid_types.specs.declared.owner.Owner.{Owner}
 use Rattle.page_states.specs.declared.page_state.PageState.{PageState}
@@ -7,7 +7,7 @@ use Rattle.page_states.specs.declared.page_state.PageState.TheVariants.{Free, Cl
 use Rattle.page_states.specs.Counts.{once}
 use Rattle.grid_types.specs.Owners.{same_owner}
 use Rattle.page_states.specs.States.{is_free, is_claimed, is_claimed_by, is_current, is_replaced, is_current_at, shows}
-use Rattle.page_states.specs.Effects.{claim_one, ended, published, freed, is_gone}
+use Rattle.page_states.specs.Effects.{free_pages, claim_all, ended, published, freed, is_gone}
 
 -- at a place each owner that exists has exactly one page current there, which has its content, and no other owner has one
 pub record Serves (content : Owner → Option (List ℕ)) (bytes : ℕ → List ℕ) (place : ℕ) (states : List PageState) : Type 0 where
@@ -36,7 +36,13 @@ GivingBackKeeps = (seat place : ℕ) (states : List PageState) → Keeps place s
 
 -- a claim keeps each place
 abbrev pub ClaimKeeps : Type 0
-ClaimKeeps = (seat place page : ℕ) (states : List PageState) → slice_get states page ≡ Some Free → Keeps place states (claim_one seat states page)
+ClaimKeeps = (seat count place : ℕ) (states : List PageState)
+    → Keeps place states (claim_all seat (take count (free_pages states)) states)
+
+-- each page that a claim gives is the seat's
+abbrev pub ClaimedPagesAreTheSeats : Type 0
+ClaimedPagesAreTheSeats = (seat count i : ℕ) (pages : List ℕ) (states : List PageState) → pages ≡ take count (free_pages states) → i < length pages
+    → slice_get (claim_all seat pages states) (slice_index pages i) ≡ Some (Claimed seat)
 
 -- each page is free, claimed, current or replaced
 abbrev pub PagesAreCounted : Type 0
@@ -69,7 +75,42 @@ abbrev pub PublicationServes : Type 0
 PublicationServes = (content : Owner → Option (List ℕ)) (bytes : ℕ → List ℕ) (page seat at : ℕ) (owner : Owner) (states : List PageState) → slice_get states page ≡ Some (Claimed seat) → Settled at states
     → Serves content bytes at states → Serves (with_content content owner (Some (bytes page))) bytes at (published page owner at states)
 
+-- an owner that vanishes is served no more from its place on, and each other owner as before
+abbrev pub VanishingServes : Type 0
+VanishingServes = (content : Owner → Option (List ℕ)) (bytes : ℕ → List ℕ) (at : ℕ) (owner : Owner) (states : List PageState) → Settled at states → Serves content bytes at states
+    → Serves (with_content content owner None) bytes at (map (ended owner at) states)
+
+-- where all pages are free, no owner is served at any place
+abbrev pub StartServes : Type 0
+StartServes = (bytes : ℕ → List ℕ) (pages place : ℕ) → Serves (λ o. None) bytes place (replicate pages Free)
+
+-- where all pages are free, none began or ended beyond any front
+abbrev pub StartSettles : Type 0
+StartSettles = (pages front : ℕ) → Settled front (replicate pages Free)
+
+-- after a publication at the front or beyond it, that is the front
+abbrev pub PublicationSettles : Type 0
+PublicationSettles = (page front at : ℕ) (owner : Owner) (states : List PageState) → front ≤ at → Settled front states → Settled at (published page owner at states)
+
+-- so it is after an owner vanishes
+abbrev pub VanishingSettles : Type 0
+VanishingSettles = (front at : ℕ) (owner : Owner) (states : List PageState) → front ≤ at → Settled front states → Settled at (map (ended owner at) states)
+
+-- pages that become free, whichever they are, leave the front where it is
+abbrev pub FreeingSettles : Type 0
+FreeingSettles = (test : PageState → Bool) (front : ℕ) (states : List PageState) → Settled front states → Settled front (map (freed test) states)
+
+-- a claim leaves the front where it is
+abbrev pub ClaimSettles : Type 0
+ClaimSettles = (seat front : ℕ) (pages : List ℕ) (states : List PageState) → Settled front states → Settled front (claim_all seat pages states)
+
 -- where each owner that exists is listed once, there are as many current pages as owners
 abbrev pub CurrentPagesAreOwners : Type 0
 CurrentPagesAreOwners = (content : Owner → Option (List ℕ)) (bytes : ℕ → List ℕ) (front : ℕ) (states : List PageState) (owners : List Owner) → Settled front states → Serves content bytes front states
     → ((o : Owner) → count_by (same_owner o) owners ≡ once is_some (content o)) → count_by is_current states ≡ length owners
+
+-- where each owner that exists is listed once, and the root's place alone is kept: the free pages, one for each owner, those that the root alone keeps, and the claimed ones are all pages
+abbrev pub FreePagesAreCounted : Type 0
+FreePagesAreCounted = (content : Owner → Option (List ℕ)) (bytes : ℕ → List ℕ) (front root : ℕ) (states : List PageState) (owners : List Owner) → Settled front states → Serves content bytes front states
+    → ((o : Owner) → count_by (same_owner o) owners ≡ once is_some (content o))
+    → count_by is_free (map (freed (is_gone (root ∷ []))) states) + length owners + count_by (is_of_root root) states + count_by is_claimed states ≡ length states

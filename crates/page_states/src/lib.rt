@@ -13,6 +13,6 @@ mod slot;
 mod states;
 mod table;
 
-pub use laws::{counted_pages, kept_places, new_place};
+pub use laws::{claim_law, counted_pages, front_law, kept_places, new_place};
 pub use page_state::PageState;
 pub use states::PageStates;
