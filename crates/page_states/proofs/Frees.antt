@@ -73,6 +73,12 @@ none_out test xs list at d p inside fails above j x low within has =
       | inr w ↦ above from.0 x (from.3 low) from.1 (ap (slice_get xs) (sym from.2) ∙ w.1)
     ]
 
+-- a page is taken out, and from its index on none passes
+pub none_taken : (test : PageState → Bool) (xs : List PageState) (list : List ℕ) (at d : ℕ) → at < length list → NoneFrom test xs list (at + 1) → NoneFrom test xs (swap_remove list at d) at
+none_taken test xs list at d inside above j x low within has =
+    let from = out_at list at d j inside within in
+    above from.0 x (from.3 low) from.1 (ap (slice_get xs) (sym from.2) ∙ has)
+
 -- a page that does not pass stays
 pub none_more : (test : PageState → Bool) (xs : List PageState) (list : List ℕ) (at : ℕ) → ((x : PageState) → slice_get xs (slice_index list at) ≡ Some x → test x ≡ false) → NoneFrom test xs list (at + 1) → NoneFrom test xs list at
 none_more test xs list at here above j x low within has = elim (cases_eq j at) [

@@ -39,7 +39,7 @@ pub giving_back_keeps : GivingBackKeeps
 giving_back_keeps seat place states = same_keeps place states (map (freed (is_claimed_by seat)) states) (λ o q. map_same (shows o place) (freed (is_claimed_by seat)) states q (given_unseen o seat place))
 
 -- a page that is current at one of the places is kept
-kept_at : (places : List ℕ) (place k : ℕ) (x : PageState) → k < length places → slice_index_or places k place ≡ place → is_current_at place x ≡ true → is_kept places x ≡ true
+pub kept_at : (places : List ℕ) (place k : ℕ) (x : PageState) → k < length places → slice_index_or places k place ≡ place → is_current_at place x ≡ true → is_kept places x ≡ true
 kept_at [] place k x low there shown = absurd (omega arith)
 kept_at (p ∷ places) place zero x low there shown = ap (λ (b : Bool). b || is_kept places x) (ap (λ (n : ℕ). is_current_at n x) there ∙ shown)
 kept_at (p ∷ places) place (suc k) x low there shown = by (is_current_at p x) (kept_at places place k x (omega arith) there shown)

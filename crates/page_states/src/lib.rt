@@ -1,7 +1,9 @@
 //! The state of each data page: free, claimed by a seat, or live, the page of an owner from a place on.
 #![tactic(auto)]
 
+mod anchors;
 mod claiming;
+mod current;
 mod free_pages;
 mod freeing;
 mod laws;
@@ -9,8 +11,10 @@ mod numbers;
 mod page_state;
 mod publishing;
 mod reading;
+mod roots;
 mod slot;
 mod states;
+mod sweeping;
 mod table;
 
 pub use laws::{claim_law, counted_pages, front_law, kept_places, new_place};

@@ -47,7 +47,7 @@ pub(crate) fn end_page(table: &mut Table, owner: Owner, at: u64)
         from: found.1,
         to: Some(at),
     };
-    add(&mut table.replaced, found.0);
+    add(&mut table.loose, found.0);
 }
 
 /// A claimed page becomes the current one of an owner who has none.

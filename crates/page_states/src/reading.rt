@@ -4,7 +4,7 @@ ghost use Rattle.std.specs.List.{count_by, list_any};
 ghost use Rattle.page_states.specs.declared.page_state.PageState.{PageState};
 ghost use Rattle.page_states.specs.declared.page_state.PageState.TheVariants.{Live};
 ghost use Rattle.page_states.specs.States.{is_free, is_claimed_by, is_replaced, number_of, shows};
-ghost use Rattle.page_states.specs.Effects.{Shows};
+ghost use Rattle.page_states.specs.Effects.{Shows, NoneFrom};
 ghost use Rattle.page_states.specs.Tables.{IsTable};
 
 use crate::numbers::number_at;
@@ -39,20 +39,34 @@ fn newest_page_at(table: &Table, owner: Owner, place: u64) -> Option<u32>
     None
 }
 
+/// The page of these that is an owner's at the place.
+fn shown_in(states: &Vec<PageState>, list: &Vec<u32>, owner: Owner, place: u64) -> Option<u32>
+    ensures found { IfSome result (λ p. Shows owner place states.now.items p) }
+    ensures none { IfNone result (NoneFrom (shows owner place) states.now.items list.now.items 0) }
+{
+    for at in 0..list.len() {
+        let page = number_at(list, at);
+        if let Some(state) = state_at(states, page) {
+            let shown = shows(owner, place, state);
+            if shown {
+                return Some(page);
+            }
+        }
+    }
+    None
+}
+
 /// A replaced page of an owner that was current at the place.
 fn old_page_at(table: &Table, owner: Owner, place: u64) -> Option<u32>
     requires { IsTable table.now }
     ensures found { IfSome result (λ p. Shows owner place table.now.states.items p) }
     ensures none { IfNone result ((p : ℕ) (x : PageState) → slice_get table.now.states.items p ≡ Some x → is_replaced x ≡ true → shows owner place x ≡ false) }
 {
-    for at in 0..table.replaced.len() {
-        let page = number_at(&table.replaced, at);
-        if let Some(state) = state_at(&table.states, page) {
-            let shown = shows(owner, place, state);
-            if shown {
-                return Some(page);
-            }
-        }
+    if let Some(page) = shown_in(&table.states, &table.loose, owner, place) {
+        return Some(page);
+    }
+    if let Some(page) = shown_in(&table.states, &table.anchored, owner, place) {
+        return Some(page);
     }
     None
 }

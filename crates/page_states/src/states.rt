@@ -1,15 +1,20 @@
 //! The states of the pages as one value: a list of them, by page number.
 ghost use Rattle.std.specs.Prelude.{◌≡◌, ◌≤◌, ◌<◌, ℕ, length, map, take, replicate, true, false, Some, IfOk, IfSome, IfNone, slice_get};
 ghost use Rattle.std.specs.List.{count_by, list_any};
+ghost use Rattle.grid_types.specs.declared.owner.Owner.TheVariants.{Bucket, Part};
 ghost use Rattle.page_states.specs.declared.page_state.PageState.{PageState};
 ghost use Rattle.page_states.specs.declared.page_state.PageState.TheVariants.{Free, Claimed};
 ghost use Rattle.page_states.specs.States.{is_free, is_claimed_by, number_of, shows};
+ghost use Rattle.page_states.specs.Current.{TellsPages};
 ghost use Rattle.page_states.specs.Effects.{free_pages, claim_all, ended, published, freed, is_gone, is_of_roots, Shows};
 
 use crate::claiming::claim_lowest;
-use crate::freeing::{give_back_all, has_roots_page, sweep_all};
+use crate::current::{tell_buckets, tell_parts};
+use crate::freeing::give_back_all;
 use crate::publishing::{end_page, publish_page};
 use crate::reading::{free_count, has_claims, page_of};
+use crate::roots::has_roots_page;
+use crate::sweeping::sweep_all;
 use crate::table::Table;
 use grid_types::Owner;
 use std::alloc::{AllocError, Global};
@@ -112,5 +117,23 @@ impl PageStates {
         ensures { result ≡ list_any (is_of_roots pins.now roots.now) self.now }
     {
         has_roots_page(&self.table, pins, roots)
+    }
+
+    /// The table of a root's buckets: the current page of each bucket number, or `nowhere`.
+    pub fn bucket_pages(&self, nowhere: u32, out: &mut [u32])
+        requires { length out.old ≤ length self.now }
+        ensures told { TellsPages Bucket nowhere self.now out.new (length out.new) }
+        ensures length { length out.new ≡ length out.old }
+    {
+        tell_buckets(&self.table, nowhere, out);
+    }
+
+    /// The table of a root's parts: the current page of each part number, or `nowhere`.
+    pub fn part_pages(&self, nowhere: u32, out: &mut [u32])
+        requires { length out.old ≤ length self.now }
+        ensures told { TellsPages Part nowhere self.now out.new (length out.new) }
+        ensures length { length out.new ≡ length out.old }
+    {
+        tell_parts(&self.table, nowhere, out);
     }
 }

@@ -1,0 +1,85 @@
+//! Replaced pages that nobody needs become free.
+ghost use Rattle.std.specs.Prelude.{◌≡◌, ◌≤◌, ◌<◌, ◌+◌, length, map, true, Some, slice_get, slice_set, slice_index};
+ghost use Rattle.std.specs.List.{swap_remove};
+ghost use Rattle.page_states.specs.declared.page_state.PageState.{PageState};
+ghost use Rattle.page_states.specs.declared.page_state.PageState.TheVariants.{Free};
+ghost use Rattle.page_states.specs.Effects.{freed, is_gone, NoneFrom};
+ghost use Rattle.page_states.specs.Sound.{IsAmong, is_held};
+ghost use Rattle.page_states.specs.Tables.{IsTable};
+
+use crate::anchors::{is_held, settle_anchor};
+use crate::numbers::{add, number_at, take_out};
+use crate::page_state::is_kept;
+use crate::table::{Table, make_free, state_at};
+
+/// The loose page at an index is anchored.
+fn hold_page(table: &mut Table, at: usize)
+    requires table { IsTable table.old }
+    requires inside { at < length table.old.loose.items }
+    requires held { (x : PageState) → slice_get table.old.states.items (slice_index table.old.loose.items at) ≡ Some x → is_held table.old.anchor x ≡ true }
+    ensures table { IsTable table.new }
+    ensures states { table.new.states.items ≡ table.old.states.items }
+    ensures loose { table.new.loose.items ≡ swap_remove table.old.loose.items at (slice_index table.old.loose.items at) }
+    ensures anchor { table.new.anchor ≡ table.old.anchor }
+{
+    let page = number_at(&table.loose, at);
+    take_out(&mut table.loose, at);
+    add(&mut table.anchored, page);
+}
+
+/// The loose page at an index is free.
+fn free_page(table: &mut Table, at: usize)
+    requires table { IsTable table.old }
+    requires inside { at < length table.old.loose.items }
+    requires there { (x : PageState) × (slice_get table.old.states.items (slice_index table.old.loose.items at) ≡ Some x) }
+    ensures table { IsTable table.new }
+    ensures states { table.new.states.items ≡ slice_set table.old.states.items (slice_index table.old.loose.items at) Free }
+    ensures loose { table.new.loose.items ≡ swap_remove table.old.loose.items at (slice_index table.old.loose.items at) }
+    ensures anchor { table.new.anchor ≡ table.old.anchor }
+{
+    let page = number_at(&table.loose, at);
+    take_out(&mut table.loose, at);
+    make_free(&mut table.states, &mut table.hints, &mut table.low, page);
+    table.free += 1;
+}
+
+/// The loose page at an index is anchored if it is current at the anchor's place, and free if it is current at none of the places.
+fn sweep_at(table: &mut Table, places: &[u64], at: usize)
+    requires table { IsTable table.old }
+    requires inside { at < length table.old.loose.items }
+    requires above { NoneFrom (is_gone places.now) table.old.states.items table.old.loose.items (at + 1) }
+    ensures table { IsTable table.new }
+    ensures states { map (freed (is_gone places.now)) table.new.states.items ≡ map (freed (is_gone places.now)) table.old.states.items }
+    ensures above { NoneFrom (is_gone places.now) table.new.states.items table.new.loose.items at }
+    ensures left { at ≤ length table.new.loose.items }
+    ensures anchor { table.new.anchor ≡ table.old.anchor }
+{
+    let page = number_at(&table.loose, at);
+    let Some(state) = state_at(&table.states, page) else {
+        return;
+    };
+    let held = is_held(table.anchor, state);
+    if held {
+        hold_page(table, at);
+        return;
+    }
+    let kept = is_kept(places, state);
+    if kept {
+        return;
+    }
+    free_page(table, at);
+}
+
+/// Each replaced page that is current at none of the places is free.
+pub(crate) fn sweep_all(table: &mut Table, places: &[u64])
+    requires { IsTable table.old }
+    ensures table { IsTable table.new }
+    ensures states { table.new.states.items ≡ map (freed (is_gone places.now)) table.old.states.items }
+{
+    settle_anchor(table, places);
+    let mut at = table.loose.len();
+    while at > 0 {
+        at -= 1;
+        sweep_at(table, places, at);
+    }
+}
