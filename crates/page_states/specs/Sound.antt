@@ -1,6 +1,6 @@
 -- What the hidden lists say of the states.
-use Rattle.std.specs.Prelude.{◌≡◌, ◌≤◌, ◌<◌, ◌*◌, ◌+◌, ◌/◌, ◌++◌, ℕ, Bool, true, false, List, Option, Some, None, IfSome, Contains, length, slice_get, slice_index}
-use Rattle.std.specs.List.{count_by}
+use Rattle.std.specs.Prelude.{◌≡◌, ◌≤◌, ◌<◌, ◌*◌, ◌+◌, ◌/◌, ◌++◌, ℕ, Bool, true, false, List, Option, Some, None, IfSome, Contains, length, slice_get, slice_set, slice_index, min}
+use Rattle.std.specs.List.{count_by, swap_remove}
 use Rattle.grid_types.specs.declared.owner.Owner.{Owner}
 use Rattle.page_states.specs.declared.page_state.PageState.{PageState}
 use Rattle.page_states.specs.declared.page_state.PageState.TheVariants.{Free, Claimed, Live}
@@ -10,6 +10,34 @@ use Rattle.page_states.specs.States.{is_free, is_claimed, is_replaced, is_curren
 -- no free page of a block of 256 pages lies before the block's hint
 abbrev pub AreHints : List PageState → List ℕ → Type 0
 AreHints states hints = (p : ℕ) → slice_get states p ≡ Some Free → slice_index hints (p / 256) ≤ p
+
+-- no page is free from one number up to another one
+abbrev pub NoFreeIn : List PageState → ℕ → ℕ → Type 0
+NoFreeIn states from end = (q : ℕ) → from ≤ q → q < end → slice_get states q ≡ Some Free → ⊥
+
+-- no page is free
+abbrev pub NoFree : List PageState → Type 0
+NoFree states = (q : ℕ) → slice_get states q ≡ Some Free → ⊥
+
+-- a page is free, and its number lies from one number up to another one
+abbrev pub IsFreeIn : List PageState → ℕ → ℕ → ℕ → Type 0
+IsFreeIn states from end p = (slice_get states p ≡ Some Free) × (from ≤ p) × (p < end)
+
+-- the hint of a page's block is lowered to the page
+abbrev pub lowered : List ℕ → ℕ → List ℕ
+lowered hints page = slice_set hints (page / 256) (min (slice_index hints (page / 256)) page)
+
+-- a list of numbers in no order without the one at an index
+abbrev pub without : List ℕ → ℕ → List ℕ
+without list at = swap_remove list at (slice_index list at)
+
+-- the page is free afterwards, and each other page is as it was
+abbrev pub IsFreeAfter : List PageState → ℕ → List PageState → Type 0
+IsFreeAfter old p new = new ≡ slice_set old p Free
+
+-- there is a page of the number
+abbrev pub IsThere : List PageState → ℕ → Type 0
+IsThere states p = (x : PageState) × (slice_get states p ≡ Some x)
 
 -- the free page of the least number
 pub record IsLeastFree (states : List PageState) (p : ℕ) : Type 0 where
@@ -24,6 +52,10 @@ AreNewest states newest = (p : ℕ) (o : Owner) (from : ℕ) → slice_get state
 abbrev pub is_held : Option ℕ → PageState → Bool
 is_held None x = false
 is_held (Some place) x = is_current_at place x
+
+-- the page of the number is held by the anchor
+abbrev pub IsHeldAt : Option ℕ → List PageState → ℕ → Type 0
+IsHeldAt anchor states p = (x : PageState) → slice_get states p ≡ Some x → is_held anchor x ≡ true
 
 -- each page of the list is held by the anchor
 abbrev pub AreHeld : Option ℕ → List ℕ → List PageState → Type 0

@@ -1,7 +1,7 @@
 //! The table of current pages.
-ghost use Rattle.std.specs.Prelude.{◌≡◌, ◌<◌, ◌≤◌, ℕ, length, Some, None, slice_get};
+ghost use Rattle.std.specs.Prelude.{◌≡◌, ◌<◌, ◌≤◌, ℕ, length};
 ghost use Rattle.grid_types.specs.declared.owner.Owner.TheVariants.{Bucket, Part};
-ghost use Rattle.page_states.specs.declared.page_state.PageState.TheVariants.{Live};
+ghost use Rattle.page_states.specs.Effects.{IsCurrentFrom, HasNoPage};
 ghost use Rattle.page_states.specs.States.{number_of};
 ghost use Rattle.page_states.specs.Current.{TellsPages};
 ghost use Rattle.page_states.specs.Tables.{IsTable};
@@ -14,8 +14,8 @@ use grid_types::Owner;
 fn page_or(table: &Table, owner: Owner, nowhere: u32) -> u32
     requires table { IsTable table.now }
     requires known { number_of owner < length table.now.states.items }
-    ensures page { (p from : ℕ) → slice_get table.now.states.items p ≡ Some (Live owner from None) → result ≡ p }
-    ensures other { ((p from : ℕ) → slice_get table.now.states.items p ≡ Some (Live owner from None) → ⊥) → result ≡ nowhere }
+    ensures page { (p from : ℕ) → IsCurrentFrom owner table.now.states.items p from → result ≡ p }
+    ensures other { HasNoPage owner table.now.states.items → result ≡ nowhere }
 {
     let Some(found) = current_page(table, owner) else {
         return nowhere;

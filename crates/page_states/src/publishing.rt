@@ -2,7 +2,7 @@
 ghost use Rattle.std.specs.Prelude.{◌≡◌, ◌<◌, ◌*◌, ℕ, length, map, Some, None, IfSome, IfNone, slice_get, slice_set};
 ghost use Rattle.page_states.specs.declared.page_state.PageState.TheVariants.{Claimed, Live};
 ghost use Rattle.page_states.specs.States.{number_of};
-ghost use Rattle.page_states.specs.Effects.{ended, published};
+ghost use Rattle.page_states.specs.Effects.{begun, ended, published, IsClaimed, IsCurrentFrom, HasNoPage};
 ghost use Rattle.page_states.specs.Tables.{IsTable};
 
 use crate::numbers::{add, index_of, take_out};
@@ -15,8 +15,8 @@ use grid_types::Owner;
 pub(crate) fn current_page(table: &Table, owner: Owner) -> Option<(u32, u64)>
     requires table { IsTable table.now }
     requires known { number_of owner < length table.now.states.items }
-    ensures found { IfSome result (λ r. slice_get table.now.states.items r.0 ≡ Some (Live owner r.1 None)) }
-    ensures none { IfNone result ((p from : ℕ) → slice_get table.now.states.items p ≡ Some (Live owner from None) → ⊥) }
+    ensures found { IfSome result (λ r. IsCurrentFrom owner table.now.states.items r.0 r.1) }
+    ensures none { IfNone result (HasNoPage owner table.now.states.items) }
 {
     let Some(page) = table.newest[slot_of(owner)] else {
         return None;
@@ -54,10 +54,10 @@ pub(crate) fn end_page(table: &mut Table, owner: Owner, at: u64)
 fn begin_page(table: &mut Table, page: u32, owner: Owner, at: u64)
     requires table { IsTable table.old }
     requires known { number_of owner < length table.old.states.items }
-    requires claimed { (seat : ℕ) × (slice_get table.old.states.items page ≡ Some (Claimed seat)) }
-    requires alone { (p from : ℕ) → slice_get table.old.states.items p ≡ Some (Live owner from None) → ⊥ }
+    requires claimed { IsClaimed table.old.states.items page }
+    requires alone { HasNoPage owner table.old.states.items }
     ensures table { IsTable table.new }
-    ensures states { table.new.states.items ≡ slice_set table.old.states.items page (Live owner at None) }
+    ensures states { table.new.states.items ≡ begun page owner at table.old.states.items }
 {
     let index = index_of(&table.claimed, page);
     take_out(&mut table.claimed, index);
@@ -73,7 +73,7 @@ fn begin_page(table: &mut Table, page: u32, owner: Owner, at: u64)
 pub(crate) fn publish_page(table: &mut Table, page: u32, owner: Owner, at: u64)
     requires table { IsTable table.old }
     requires known { number_of owner < length table.old.states.items }
-    requires claimed { (seat : ℕ) × (slice_get table.old.states.items page ≡ Some (Claimed seat)) }
+    requires claimed { IsClaimed table.old.states.items page }
     ensures table { IsTable table.new }
     ensures states { table.new.states.items ≡ published page owner at table.old.states.items }
 {

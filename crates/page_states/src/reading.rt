@@ -4,7 +4,7 @@ ghost use Rattle.std.specs.List.{count_by, list_any};
 ghost use Rattle.page_states.specs.declared.page_state.PageState.{PageState};
 ghost use Rattle.page_states.specs.declared.page_state.PageState.TheVariants.{Live};
 ghost use Rattle.page_states.specs.States.{is_free, is_claimed_by, is_replaced, number_of, shows};
-ghost use Rattle.page_states.specs.Effects.{Shows, NoneFrom};
+ghost use Rattle.page_states.specs.Effects.{Shows, ShowsNone, ShowedNone, BeganBeyond, NoneFrom};
 ghost use Rattle.page_states.specs.Tables.{IsTable};
 
 use crate::numbers::number_at;
@@ -27,7 +27,7 @@ fn newest_page_at(table: &Table, owner: Owner, place: u64) -> Option<u32>
     requires table { IsTable table.now }
     requires known { number_of owner < length table.now.states.items }
     ensures found { IfSome result (λ p. Shows owner place table.now.states.items p) }
-    ensures none { IfNone result ((p from : ℕ) → slice_get table.now.states.items p ≡ Some (Live owner from None) → place < from) }
+    ensures none { IfNone result (BeganBeyond owner place table.now.states.items) }
 {
     let Some(found) = current_page(table, owner) else {
         return None;
@@ -39,12 +39,14 @@ fn newest_page_at(table: &Table, owner: Owner, place: u64) -> Option<u32>
     None
 }
 
-/// The page of these that is an owner's at the place.
+/// The page of these that is an owner's at the place. It begins with the last of them, which mostly was replaced last.
 fn shown_in(states: &Vec<PageState>, list: &Vec<u32>, owner: Owner, place: u64) -> Option<u32>
     ensures found { IfSome result (λ p. Shows owner place states.now.items p) }
     ensures none { IfNone result (NoneFrom (shows owner place) states.now.items list.now.items 0) }
 {
-    for at in 0..list.len() {
+    let mut at = list.len();
+    while at > 0 {
+        at -= 1;
         let page = number_at(list, at);
         if let Some(state) = state_at(states, page) {
             let shown = shows(owner, place, state);
@@ -60,7 +62,7 @@ fn shown_in(states: &Vec<PageState>, list: &Vec<u32>, owner: Owner, place: u64) 
 fn old_page_at(table: &Table, owner: Owner, place: u64) -> Option<u32>
     requires { IsTable table.now }
     ensures found { IfSome result (λ p. Shows owner place table.now.states.items p) }
-    ensures none { IfNone result ((p : ℕ) (x : PageState) → slice_get table.now.states.items p ≡ Some x → is_replaced x ≡ true → shows owner place x ≡ false) }
+    ensures none { IfNone result (ShowedNone owner place table.now.states.items) }
 {
     if let Some(page) = shown_in(&table.states, &table.loose, owner, place) {
         return Some(page);
@@ -76,7 +78,7 @@ pub(crate) fn page_of(table: &Table, owner: Owner, place: u64) -> Option<u32>
     requires table { IsTable table.now }
     requires known { number_of owner < length table.now.states.items }
     ensures found { IfSome result (λ p. Shows owner place table.now.states.items p) }
-    ensures none { IfNone result ((p : ℕ) (x : PageState) → slice_get table.now.states.items p ≡ Some x → shows owner place x ≡ false) }
+    ensures none { IfNone result (ShowsNone owner place table.now.states.items) }
 {
     if let Some(page) = newest_page_at(table, owner, place) {
         return Some(page);

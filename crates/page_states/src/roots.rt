@@ -3,7 +3,7 @@ ghost use Rattle.std.specs.Prelude.{◌≡◌, ◌<◌, ◌&&◌, ℕ, not, true
 ghost use Rattle.std.specs.List.{list_any};
 ghost use Rattle.page_states.specs.declared.page_state.PageState.{PageState};
 ghost use Rattle.page_states.specs.States.{is_kept, is_replaced};
-ghost use Rattle.page_states.specs.Effects.{is_of_roots, NoneFrom};
+ghost use Rattle.page_states.specs.Effects.{is_of_roots, HasRootsPage, HasNoneOf};
 ghost use Rattle.page_states.specs.Sound.{AreListedReplaced};
 ghost use Rattle.page_states.specs.Tables.{IsTable};
 
@@ -25,8 +25,8 @@ fn is_only_of(roots: &[u64], pins: &[u64], state: PageState) -> bool
 /// Whether one of these replaced pages is current at a root's place and at none of the pins.
 fn has_one_of(states: &Vec<PageState>, list: &Vec<u32>, pins: &[u64], roots: &[u64]) -> bool
     requires { AreListedReplaced states.now.items list.now.items }
-    ensures found { result ≡ true → list_any (is_of_roots pins.now roots.now) states.now.items ≡ true }
-    ensures none { result ≡ false → NoneFrom (is_of_roots pins.now roots.now) states.now.items list.now.items 0 }
+    ensures found { result ≡ true → HasRootsPage pins.now roots.now states.now.items }
+    ensures none { result ≡ false → HasNoneOf pins.now roots.now states.now.items list.now.items }
 {
     for at in 0..list.len() {
         let page = number_at(list, at);

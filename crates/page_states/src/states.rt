@@ -6,7 +6,7 @@ ghost use Rattle.page_states.specs.declared.page_state.PageState.{PageState};
 ghost use Rattle.page_states.specs.declared.page_state.PageState.TheVariants.{Free, Claimed};
 ghost use Rattle.page_states.specs.States.{is_free, is_claimed_by, number_of, shows};
 ghost use Rattle.page_states.specs.Current.{TellsPages};
-ghost use Rattle.page_states.specs.Effects.{free_pages, claim_all, ended, published, freed, is_gone, is_of_roots, Shows};
+ghost use Rattle.page_states.specs.Effects.{free_pages, claim_all, ended, published, freed, is_gone, is_of_roots, IsClaimed, Shows, ShowsNone};
 
 use crate::claiming::claim_lowest;
 use crate::current::{tell_buckets, tell_parts};
@@ -68,7 +68,7 @@ impl PageStates {
     /// A claimed page becomes the owner's current one from a place on, and the owner's page of before ends there.
     pub fn publish(&mut self, page: u32, owner: Owner, at: u64)
         requires known { number_of owner < length self.old }
-        requires claimed { (seat : ℕ) × (slice_get self.old page ≡ Some (Claimed seat)) }
+        requires claimed { IsClaimed self.old page }
         ensures { self.new ≡ published page owner at self.old }
     {
         publish_page(&mut self.table, page, owner, at);
@@ -100,7 +100,7 @@ impl PageStates {
     pub fn page_at(&self, owner: Owner, place: u64) -> Option<u32>
         requires { number_of owner < length self.now }
         ensures found { IfSome result (λ p. Shows owner place self.now p) }
-        ensures none { IfNone result ((p : ℕ) (x : PageState) → slice_get self.now p ≡ Some x → shows owner place x ≡ false) }
+        ensures none { IfNone result (ShowsNone owner place self.now) }
     {
         page_of(&self.table, owner, place)
     }

@@ -1,10 +1,7 @@
 //! Replaced pages that nobody needs become free.
 ghost use Rattle.std.specs.Prelude.{◌≡◌, ◌≤◌, ◌<◌, ◌+◌, length, map, true, Some, slice_get, slice_set, slice_index};
-ghost use Rattle.std.specs.List.{swap_remove};
-ghost use Rattle.page_states.specs.declared.page_state.PageState.{PageState};
-ghost use Rattle.page_states.specs.declared.page_state.PageState.TheVariants.{Free};
-ghost use Rattle.page_states.specs.Effects.{freed, is_gone, NoneFrom};
-ghost use Rattle.page_states.specs.Sound.{IsAmong, is_held};
+ghost use Rattle.page_states.specs.Effects.{freed, is_gone, AreFreedAlike, NoneFrom};
+ghost use Rattle.page_states.specs.Sound.{IsFreeAfter, IsHeldAt, IsThere, without};
 ghost use Rattle.page_states.specs.Tables.{IsTable};
 
 use crate::anchors::{is_held, settle_anchor};
@@ -16,10 +13,10 @@ use crate::table::{Table, make_free, state_at};
 fn hold_page(table: &mut Table, at: usize)
     requires table { IsTable table.old }
     requires inside { at < length table.old.loose.items }
-    requires held { (x : PageState) → slice_get table.old.states.items (slice_index table.old.loose.items at) ≡ Some x → is_held table.old.anchor x ≡ true }
+    requires held { IsHeldAt table.old.anchor table.old.states.items (slice_index table.old.loose.items at) }
     ensures table { IsTable table.new }
     ensures states { table.new.states.items ≡ table.old.states.items }
-    ensures loose { table.new.loose.items ≡ swap_remove table.old.loose.items at (slice_index table.old.loose.items at) }
+    ensures loose { table.new.loose.items ≡ without table.old.loose.items at }
     ensures anchor { table.new.anchor ≡ table.old.anchor }
 {
     let page = number_at(&table.loose, at);
@@ -31,10 +28,10 @@ fn hold_page(table: &mut Table, at: usize)
 fn free_page(table: &mut Table, at: usize)
     requires table { IsTable table.old }
     requires inside { at < length table.old.loose.items }
-    requires there { (x : PageState) × (slice_get table.old.states.items (slice_index table.old.loose.items at) ≡ Some x) }
+    requires there { IsThere table.old.states.items (slice_index table.old.loose.items at) }
     ensures table { IsTable table.new }
-    ensures states { table.new.states.items ≡ slice_set table.old.states.items (slice_index table.old.loose.items at) Free }
-    ensures loose { table.new.loose.items ≡ swap_remove table.old.loose.items at (slice_index table.old.loose.items at) }
+    ensures states { IsFreeAfter table.old.states.items (slice_index table.old.loose.items at) table.new.states.items }
+    ensures loose { table.new.loose.items ≡ without table.old.loose.items at }
     ensures anchor { table.new.anchor ≡ table.old.anchor }
 {
     let page = number_at(&table.loose, at);
@@ -49,7 +46,7 @@ fn sweep_at(table: &mut Table, places: &[u64], at: usize)
     requires inside { at < length table.old.loose.items }
     requires above { NoneFrom (is_gone places.now) table.old.states.items table.old.loose.items (at + 1) }
     ensures table { IsTable table.new }
-    ensures states { map (freed (is_gone places.now)) table.new.states.items ≡ map (freed (is_gone places.now)) table.old.states.items }
+    ensures states { AreFreedAlike (is_gone places.now) table.old.states.items table.new.states.items }
     ensures above { NoneFrom (is_gone places.now) table.new.states.items table.new.loose.items at }
     ensures left { at ≤ length table.new.loose.items }
     ensures anchor { table.new.anchor ≡ table.old.anchor }
