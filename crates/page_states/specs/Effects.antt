@@ -20,6 +20,10 @@ free_pages states = free_from 0 states
 abbrev pub claim_one : ℕ → List PageState → ℕ → List PageState
 claim_one seat states p = slice_set states p (Claimed seat)
 
+-- this page, and no other one, was claimed by the seat
+abbrev pub IsOneClaimed : ℕ → List PageState → List PageState → ℕ → Type 0
+IsOneClaimed seat old new p = new ≡ claim_one seat old p
+
 -- each of these pages is claimed by the seat
 abbrev pub claim_all : ℕ → List ℕ → List PageState → List PageState
 claim_all seat pages states = fold (claim_one seat) states pages
@@ -51,9 +55,17 @@ is_gone places x = is_replaced x && not (is_kept places x)
 abbrev pub is_of_roots : List ℕ → List ℕ → PageState → Bool
 is_of_roots pins roots x = is_replaced x && (is_kept roots x && not (is_kept pins x))
 
--- the same pages are free in both lists once those that pass the test are
-abbrev pub AreFreedAlike : (PageState → Bool) → List PageState → List PageState → Type 0
-AreFreedAlike test old new = map (freed test) new ≡ map (freed test) old
+-- the owner has no page from the place on
+abbrev pub vanished : Owner → ℕ → List PageState → List PageState
+vanished owner at states = map (ended owner at) states
+
+-- the pages that the seat has claimed are free
+abbrev pub given_back : ℕ → List PageState → List PageState
+given_back seat states = map (freed (is_claimed_by seat)) states
+
+-- the replaced pages that are current at none of the places are free
+abbrev pub swept : List ℕ → List PageState → List PageState
+swept places states = map (freed (is_gone places)) states
 
 -- no page of the list from an index on passes the test
 abbrev pub NoneFrom : (PageState → Bool) → List PageState → List ℕ → ℕ → Type 0

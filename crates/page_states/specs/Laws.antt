@@ -7,7 +7,7 @@ use Rattle.page_states.specs.declared.page_state.PageState.TheVariants.{Free, Cl
 use Rattle.page_states.specs.Counts.{once}
 use Rattle.grid_types.specs.Owners.{same_owner}
 use Rattle.page_states.specs.States.{is_free, is_claimed, is_claimed_by, is_current, is_replaced, is_current_at, shows}
-use Rattle.page_states.specs.Effects.{free_pages, claim_all, ended, published, freed, is_gone}
+use Rattle.page_states.specs.Effects.{free_pages, claim_all, ended, published, vanished, given_back, swept, freed, is_gone}
 
 -- at a place each owner that exists has exactly one page current there, which has its content, and no other owner has one
 pub record Serves (content : Owner → Option (List ℕ)) (bytes : ℕ → List ℕ) (place : ℕ) (states : List PageState) : Type 0 where
@@ -24,15 +24,15 @@ PublicationKeeps = (page seat at place : ℕ) (owner : Owner) (states : List Pag
 
 -- so does an owner that vanishes
 abbrev pub VanishingKeeps : Type 0
-VanishingKeeps = (at place : ℕ) (owner : Owner) (states : List PageState) → place < at → Keeps place states (map (ended owner at) states)
+VanishingKeeps = (at place : ℕ) (owner : Owner) (states : List PageState) → place < at → Keeps place states (vanished owner at states)
 
 -- a sweep keeps each of its places
 abbrev pub SweepKeeps : Type 0
-SweepKeeps = (places : List ℕ) (place : ℕ) (states : List PageState) → Contains places place → Keeps place states (map (freed (is_gone places)) states)
+SweepKeeps = (places : List ℕ) (place : ℕ) (states : List PageState) → Contains places place → Keeps place states (swept places states)
 
 -- pages that are given back keep each place
 abbrev pub GivingBackKeeps : Type 0
-GivingBackKeeps = (seat place : ℕ) (states : List PageState) → Keeps place states (map (freed (is_claimed_by seat)) states)
+GivingBackKeeps = (seat place : ℕ) (states : List PageState) → Keeps place states (given_back seat states)
 
 -- a claim keeps each place
 abbrev pub ClaimKeeps : Type 0
@@ -55,7 +55,7 @@ is_of_root root x = is_replaced x && is_current_at root x
 -- after a sweep with the root's place alone, each page is free, current, claimed, or only the root's
 abbrev pub SweepLeavesTheRoot : Type 0
 SweepLeavesTheRoot = (root : ℕ) (states : List PageState)
-    → count_by is_free (map (freed (is_gone (root ∷ []))) states) + count_by is_current states + count_by (is_of_root root) states + count_by is_claimed states ≡ length states
+    → count_by is_free (swept (root ∷ []) states) + count_by is_current states + count_by (is_of_root root) states + count_by is_claimed states ≡ length states
 
 -- no page began or ended beyond the front
 pub record Settled (front : ℕ) (states : List PageState) : Type 0 where
@@ -78,7 +78,7 @@ PublicationServes = (content : Owner → Option (List ℕ)) (bytes : ℕ → Lis
 -- an owner that vanishes is served no more from its place on, and each other owner as before
 abbrev pub VanishingServes : Type 0
 VanishingServes = (content : Owner → Option (List ℕ)) (bytes : ℕ → List ℕ) (at : ℕ) (owner : Owner) (states : List PageState) → Settled at states → Serves content bytes at states
-    → Serves (with_content content owner None) bytes at (map (ended owner at) states)
+    → Serves (with_content content owner None) bytes at (vanished owner at states)
 
 -- where all pages are free, no owner is served at any place
 abbrev pub StartServes : Type 0
@@ -94,7 +94,7 @@ PublicationSettles = (page front at : ℕ) (owner : Owner) (states : List PageSt
 
 -- so it is after an owner vanishes
 abbrev pub VanishingSettles : Type 0
-VanishingSettles = (front at : ℕ) (owner : Owner) (states : List PageState) → front ≤ at → Settled front states → Settled at (map (ended owner at) states)
+VanishingSettles = (front at : ℕ) (owner : Owner) (states : List PageState) → front ≤ at → Settled front states → Settled at (vanished owner at states)
 
 -- pages that become free, whichever they are, leave the front where it is
 abbrev pub FreeingSettles : Type 0
@@ -113,4 +113,11 @@ CurrentPagesAreOwners = (content : Owner → Option (List ℕ)) (bytes : ℕ →
 abbrev pub FreePagesAreCounted : Type 0
 FreePagesAreCounted = (content : Owner → Option (List ℕ)) (bytes : ℕ → List ℕ) (front root : ℕ) (states : List PageState) (owners : List Owner) → Settled front states → Serves content bytes front states
     → ((o : Owner) → count_by (same_owner o) owners ≡ once is_some (content o))
-    → count_by is_free (map (freed (is_gone (root ∷ []))) states) + length owners + count_by (is_of_root root) states + count_by is_claimed states ≡ length states
+    → count_by is_free (swept (root ∷ []) states) + length owners + count_by (is_of_root root) states + count_by is_claimed states ≡ length states
+
+-- no call changes how many pages there are
+pub record PagesStay : Type 0 where
+  pub publication : (page at : ℕ) (owner : Owner) (states : List PageState) → length (published page owner at states) ≡ length states
+  pub vanishing : (at : ℕ) (owner : Owner) (states : List PageState) → length (vanished owner at states) ≡ length states
+  pub claim : (seat : ℕ) (pages : List ℕ) (states : List PageState) → length (claim_all seat pages states) ≡ length states
+  pub freeing : (test : PageState → Bool) (states : List PageState) → length (map (freed test) states) ≡ length states

@@ -2,6 +2,7 @@
 use Rattle.std.specs.Prelude.{◌≡◌, ◌≤◌, ◌<◌, ◌*◌, ◌+◌, ◌/◌, ◌++◌, ℕ, Bool, true, false, List, Option, Some, None, IfSome, Contains, length, slice_get, slice_set, slice_index, min}
 use Rattle.std.specs.List.{count_by, swap_remove}
 use Rattle.grid_types.specs.declared.owner.Owner.{Owner}
+use Rattle.grid_types.specs.declared.sizes.TheConstants.{MOST_PAGES}
 use Rattle.page_states.specs.declared.page_state.PageState.{PageState}
 use Rattle.page_states.specs.declared.page_state.PageState.TheVariants.{Free, Claimed, Live}
 use Rattle.page_states.specs.Counts.{times, IsListOf}
@@ -75,7 +76,7 @@ IsLowest states low = (p : ℕ) → slice_get states p ≡ Some Free → low ≤
 
 -- the hidden lists are those of the states: the replaced pages are the anchored ones and the loose ones, each once
 pub record Sound (states : List PageState) (newest : List (Option ℕ)) (claimed anchored loose hints : List ℕ) (anchor : Option ℕ) (low free : ℕ) : Type 0 where
-  pub few : length states ≤ 65536
+  pub few : length states ≤ MOST_PAGES
   pub slots : length newest ≡ 2 * length states
   pub blocks : length hints ≡ length states / 256 + 1
   pub current : AreNewest states newest

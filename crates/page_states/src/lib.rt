@@ -17,6 +17,6 @@ mod states;
 mod sweeping;
 mod table;
 
-pub use laws::{claim_law, counted_pages, front_law, kept_places, new_place};
+pub use laws::{change_law, claim_law, counted_pages, front_law, kept_places, new_place, pages_law};
 pub use page_state::PageState;
 pub use states::PageStates;

@@ -2,7 +2,7 @@
 ghost use Rattle.std.specs.Prelude.{◌≡◌, ◌<◌, ◌*◌, ℕ, length, map, Some, None, IfSome, IfNone, slice_get, slice_set};
 ghost use Rattle.page_states.specs.declared.page_state.PageState.TheVariants.{Claimed, Live};
 ghost use Rattle.page_states.specs.States.{number_of};
-ghost use Rattle.page_states.specs.Effects.{begun, ended, published, IsClaimed, IsCurrentFrom, HasNoPage};
+ghost use Rattle.page_states.specs.Effects.{begun, vanished, published, IsClaimed, IsCurrentFrom, HasNoPage};
 ghost use Rattle.page_states.specs.Tables.{IsTable};
 
 use crate::numbers::{add, index_of, take_out};
@@ -37,7 +37,7 @@ pub(crate) fn end_page(table: &mut Table, owner: Owner, at: u64)
     requires table { IsTable table.old }
     requires known { number_of owner < length table.old.states.items }
     ensures table { IsTable table.new }
-    ensures states { table.new.states.items ≡ map (ended owner at) table.old.states.items }
+    ensures states { table.new.states.items ≡ vanished owner at table.old.states.items }
 {
     let Some(found) = current_page(table, owner) else {
         return;

@@ -2,11 +2,12 @@
 ghost use Rattle.std.specs.Prelude.{◌≡◌, ◌≤◌, ◌<◌, ℕ, length, map, take, replicate, true, false, Some, IfOk, IfSome, IfNone, slice_get};
 ghost use Rattle.std.specs.List.{count_by, list_any};
 ghost use Rattle.grid_types.specs.declared.owner.Owner.TheVariants.{Bucket, Part};
+ghost use Rattle.grid_types.specs.declared.sizes.TheConstants.{MOST_PAGES};
 ghost use Rattle.page_states.specs.declared.page_state.PageState.{PageState};
 ghost use Rattle.page_states.specs.declared.page_state.PageState.TheVariants.{Free, Claimed};
 ghost use Rattle.page_states.specs.States.{is_free, is_claimed_by, number_of, shows};
 ghost use Rattle.page_states.specs.Current.{TellsPages};
-ghost use Rattle.page_states.specs.Effects.{free_pages, claim_all, ended, published, freed, is_gone, is_of_roots, IsClaimed, Shows, ShowsNone};
+ghost use Rattle.page_states.specs.Effects.{free_pages, claim_all, published, vanished, given_back, swept, is_of_roots, IsClaimed, Shows, ShowsNone};
 
 use crate::claiming::claim_lowest;
 use crate::current::{tell_buckets, tell_parts};
@@ -41,7 +42,7 @@ impl Model for PageStates {
 impl PageStates {
     /// That many free pages. All memory that is ever needed is taken here.
     pub fn new(alloc: Global, pages: u32) -> Result<PageStates, AllocError>
-        requires { pages ≤ 65536 }
+        requires { pages ≤ MOST_PAGES }
         ensures { IfOk result (λ s. s ≡ replicate pages Free) }
     {
         Ok(PageStates {
@@ -77,14 +78,14 @@ impl PageStates {
     /// The owner has no page from a place on.
     pub fn vanish(&mut self, owner: Owner, at: u64)
         requires { number_of owner < length self.old }
-        ensures { self.new ≡ map (ended owner at) self.old }
+        ensures { self.new ≡ vanished owner at self.old }
     {
         end_page(&mut self.table, owner, at);
     }
 
     /// Each page that the seat has claimed is free.
     pub fn give_back(&mut self, seat: u32)
-        ensures { self.new ≡ map (freed (is_claimed_by seat)) self.old }
+        ensures { self.new ≡ given_back seat self.old }
     {
         give_back_all(&mut self.table, seat);
     }
@@ -107,7 +108,7 @@ impl PageStates {
 
     /// Each replaced page that is current at none of the places is free.
     pub fn sweep(&mut self, places: &[u64])
-        ensures { self.new ≡ map (freed (is_gone places.now)) self.old }
+        ensures { self.new ≡ swept places.now self.old }
     {
         sweep_all(&mut self.table, places);
     }

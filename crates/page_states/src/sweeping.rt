@@ -1,8 +1,8 @@
 //! Replaced pages that nobody needs become free.
-ghost use Rattle.std.specs.Prelude.{◌≡◌, ◌≤◌, ◌<◌, ◌+◌, length, map, true, Some, slice_get, slice_set, slice_index};
-ghost use Rattle.page_states.specs.Effects.{freed, is_gone, AreFreedAlike, NoneFrom};
+ghost use Rattle.std.specs.Prelude.{◌≡◌, ◌≤◌, ◌<◌, ◌+◌, length};
+ghost use Rattle.page_states.specs.Effects.{is_gone, swept};
 ghost use Rattle.page_states.specs.Sound.{IsFreeAfter, IsHeldAt, IsThere, without};
-ghost use Rattle.page_states.specs.Tables.{IsTable};
+ghost use Rattle.page_states.specs.Tables.{IsTable, NoneLooseFrom, loose_page};
 
 use crate::anchors::{is_held, settle_anchor};
 use crate::numbers::{add, number_at, take_out};
@@ -13,7 +13,7 @@ use crate::table::{Table, make_free, state_at};
 fn hold_page(table: &mut Table, at: usize)
     requires table { IsTable table.old }
     requires inside { at < length table.old.loose.items }
-    requires held { IsHeldAt table.old.anchor table.old.states.items (slice_index table.old.loose.items at) }
+    requires held { IsHeldAt table.old.anchor table.old.states.items (loose_page table.old at) }
     ensures table { IsTable table.new }
     ensures states { table.new.states.items ≡ table.old.states.items }
     ensures loose { table.new.loose.items ≡ without table.old.loose.items at }
@@ -28,9 +28,9 @@ fn hold_page(table: &mut Table, at: usize)
 fn free_page(table: &mut Table, at: usize)
     requires table { IsTable table.old }
     requires inside { at < length table.old.loose.items }
-    requires there { IsThere table.old.states.items (slice_index table.old.loose.items at) }
+    requires there { IsThere table.old.states.items (loose_page table.old at) }
     ensures table { IsTable table.new }
-    ensures states { IsFreeAfter table.old.states.items (slice_index table.old.loose.items at) table.new.states.items }
+    ensures states { IsFreeAfter table.old.states.items (loose_page table.old at) table.new.states.items }
     ensures loose { table.new.loose.items ≡ without table.old.loose.items at }
     ensures anchor { table.new.anchor ≡ table.old.anchor }
 {
@@ -44,10 +44,10 @@ fn free_page(table: &mut Table, at: usize)
 fn sweep_at(table: &mut Table, places: &[u64], at: usize)
     requires table { IsTable table.old }
     requires inside { at < length table.old.loose.items }
-    requires above { NoneFrom (is_gone places.now) table.old.states.items table.old.loose.items (at + 1) }
+    requires above { NoneLooseFrom (is_gone places.now) table.old (at + 1) }
     ensures table { IsTable table.new }
-    ensures states { AreFreedAlike (is_gone places.now) table.old.states.items table.new.states.items }
-    ensures above { NoneFrom (is_gone places.now) table.new.states.items table.new.loose.items at }
+    ensures states { swept places.now table.new.states.items ≡ swept places.now table.old.states.items }
+    ensures above { NoneLooseFrom (is_gone places.now) table.new at }
     ensures left { at ≤ length table.new.loose.items }
     ensures anchor { table.new.anchor ≡ table.old.anchor }
 {
@@ -71,7 +71,7 @@ fn sweep_at(table: &mut Table, places: &[u64], at: usize)
 pub(crate) fn sweep_all(table: &mut Table, places: &[u64])
     requires { IsTable table.old }
     ensures table { IsTable table.new }
-    ensures states { table.new.states.items ≡ map (freed (is_gone places.now)) table.old.states.items }
+    ensures states { table.new.states.items ≡ swept places.now table.old.states.items }
 {
     settle_anchor(table, places);
     let mut at = table.loose.len();
