@@ -20,10 +20,6 @@ free_pages states = free_from 0 states
 abbrev pub claim_one : ℕ → List PageState → ℕ → List PageState
 claim_one seat states p = slice_set states p (Claimed seat)
 
--- this page, and no other one, was claimed by the seat
-abbrev pub IsOneClaimed : ℕ → List PageState → List PageState → ℕ → Type 0
-IsOneClaimed seat old new p = new ≡ claim_one seat old p
-
 -- each of these pages is claimed by the seat
 abbrev pub claim_all : ℕ → List ℕ → List PageState → List PageState
 claim_all seat pages states = fold (claim_one seat) states pages

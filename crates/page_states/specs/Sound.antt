@@ -32,10 +32,6 @@ lowered hints page = slice_set hints (page / 256) (min (slice_index hints (page 
 abbrev pub without : List ℕ → ℕ → List ℕ
 without list at = swap_remove list at (slice_index list at)
 
--- the page is free afterwards, and each other page is as it was
-abbrev pub IsFreeAfter : List PageState → ℕ → List PageState → Type 0
-IsFreeAfter old p new = new ≡ slice_set old p Free
-
 -- there is a page of the number
 abbrev pub IsThere : List PageState → ℕ → Type 0
 IsThere states p = (x : PageState) × (slice_get states p ≡ Some x)

@@ -1,8 +1,8 @@
 //! Replaced pages that nobody needs become free.
 ghost use Rattle.std.specs.Prelude.{◌≡◌, ◌≤◌, ◌<◌, ◌+◌, length};
 ghost use Rattle.page_states.specs.Effects.{is_gone, swept};
-ghost use Rattle.page_states.specs.Sound.{IsFreeAfter, IsHeldAt, IsThere, without};
-ghost use Rattle.page_states.specs.Tables.{IsTable, NoneLooseFrom, loose_page};
+ghost use Rattle.page_states.specs.Sound.{IsHeldAt, IsThere, without};
+ghost use Rattle.page_states.specs.Tables.{AreSweptAlike, IsLooseFreed, IsTable, NoneLooseFrom, loose_page};
 
 use crate::anchors::{is_held, settle_anchor};
 use crate::numbers::{add, number_at, take_out};
@@ -30,7 +30,7 @@ fn free_page(table: &mut Table, at: usize)
     requires inside { at < length table.old.loose.items }
     requires there { IsThere table.old.states.items (loose_page table.old at) }
     ensures table { IsTable table.new }
-    ensures states { IsFreeAfter table.old.states.items (loose_page table.old at) table.new.states.items }
+    ensures states { IsLooseFreed table.old at table.new }
     ensures loose { table.new.loose.items ≡ without table.old.loose.items at }
     ensures anchor { table.new.anchor ≡ table.old.anchor }
 {
@@ -46,7 +46,7 @@ fn sweep_at(table: &mut Table, places: &[u64], at: usize)
     requires inside { at < length table.old.loose.items }
     requires above { NoneLooseFrom (is_gone places.now) table.old (at + 1) }
     ensures table { IsTable table.new }
-    ensures states { swept places.now table.new.states.items ≡ swept places.now table.old.states.items }
+    ensures states { AreSweptAlike places.now table.old table.new }
     ensures above { NoneLooseFrom (is_gone places.now) table.new at }
     ensures left { at ≤ length table.new.loose.items }
     ensures anchor { table.new.anchor ≡ table.old.anchor }
