@@ -1,6 +1,6 @@
 -- Pages that are claimed together.
-use Rattle.std.proofs.Common.{◌≡◌, ◌⊎◌, inl, inr, ℕ, zero, suc, ◌+◌, ◌<◌, ◌≤◌, List, [], ◌∷◌, Bool, false, ◌&&◌, Option, Some, refl, sym, ◌∙◌, ap, subst, length, length-take, take, arith}
-use Rattle.std.specs.Prelude.{◌≢◌, slice_get, slice_set, slice_index, min}
+use Rattle.std.proofs.Common.{◌≡◌, ◌⊎◌, inl, inr, ℕ, zero, suc, ◌+◌, ◌<◌, List, [], ◌∷◌, false, Some, refl, sym, ◌∙◌, ap, subst, length, length-take, take, arith}
+use Rattle.std.specs.Prelude.{slice_get, slice_set, slice_index, min}
 use Rattle.std.proofs.lemmas.Option.{slice_get_within}
 use Rattle.std.proofs.lemmas.Bool.{cases_eq}
 use Rattle.std.proofs.lemmas.List.{length-set, get_or-take}
@@ -57,8 +57,8 @@ taken_free count i states inside =
 pub claimed_pages_are_the_seats : ClaimedPagesAreTheSeats
 claimed_pages_are_the_seats seat count i pages states is inside =
     let each : (j : ℕ) → j < length pages → slice_index pages j < length states =
-        λ j low. slice_get_within states (slice_index pages j) Free
-            (subst (λ (ps : List ℕ). slice_get states (slice_index ps j) ≡ Some Free) (sym is) (taken_free count j states (subst (λ (ps : List ℕ). j < length ps) is low))) in
+    λ j low. slice_get_within states (slice_index pages j) Free
+    (subst (λ (ps : List ℕ). slice_get states (slice_index ps j) ≡ Some Free) (sym is) (taken_free count j states (subst (λ (ps : List ℕ). j < length ps) is low))) in
     claimed_at seat i pages states inside each
 
 -- the page has a state that shows no owner

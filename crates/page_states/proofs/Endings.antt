@@ -1,5 +1,5 @@
 -- The current page of an owner ends.
-use Rattle.std.proofs.Common.{◌≡◌, ◌⊎◌, inl, inr, ℕ, suc, List, [], ◌∷◌, Bool, true, false, cond, Option, Some, None, refl, sym, ◌∙◌, ap, subst, length, map, arith}
+use Rattle.std.proofs.Common.{◌≡◌, ◌⊎◌, inl, inr, ℕ, suc, List, [], ◌∷◌, Bool, true, false, cond, Option, Some, None, refl, sym, ◌∙◌, ap, subst, map}
 use Rattle.std.specs.Prelude.{◌≢◌, slice_get, slice_set}
 use Rattle.std.specs.Option.{option_map}
 use Rattle.std.proofs.lemmas.Option.{slice_get-map, slice_get_within, same_Some}
@@ -9,7 +9,6 @@ use Rattle.grid_types.specs.declared.owner.Owner.TheVariants.{Bucket, Part}
 use Rattle.page_states.specs.declared.page_state.PageState.{PageState}
 use Rattle.page_states.specs.declared.page_state.PageState.TheVariants.{Free, Claimed, Live}
 use Rattle.grid_types.specs.Owners.{same_owner}
-use Rattle.page_states.specs.States.{slot}
 use Rattle.page_states.specs.Effects.{ended}
 use Rattle.page_states.specs.Sound.{AreNewest}
 use Rattle.page_states.proofs.Lists.{get_set_same, get_set_other, same_by_get}
@@ -61,7 +60,7 @@ ended_one owner at p from states newest current has = same_by_get (map (ended ow
     by : (i : ℕ) → (i ≡ p) ⊎ (i ≢ p) → option_map (ended owner at) (slice_get states i) ≡ slice_get (slice_set states p (Live owner from (Some at))) i
     by i (inl e) =
         let here : option_map (ended owner at) (slice_get states p) ≡ slice_get (slice_set states p (Live owner from (Some at))) p =
-            ap (option_map (ended owner at)) has ∙ ap (λ (z : PageState). Some z) (ended_own owner at from) ∙ sym (get_set_same states p (Live owner from (Some at)) (slice_get_within states p (Live owner from None) has)) in
+        ap (option_map (ended owner at)) has ∙ ap (λ (z : PageState). Some z) (ended_own owner at from) ∙ sym (get_set_same states p (Live owner from (Some at)) (slice_get_within states p (Live owner from None) has)) in
         subst (λ (k : ℕ). option_map (ended owner at) (slice_get states k) ≡ slice_get (slice_set states p (Live owner from (Some at))) k) (sym e) here
     by i (inr n) = other i n (slice_get states i) refl ∙ sym (get_set_other states p i (Live owner from (Some at)) n)
 

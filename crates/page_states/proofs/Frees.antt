@@ -1,12 +1,11 @@
 -- Pages that pass a test become free one after the other.
-use Rattle.std.proofs.Common.{◌≡◌, ◌⊎◌, inl, inr, ℕ, zero, suc, ◌+◌, ◌-◌, ◌<◌, ◌≤◌, List, [], ◌∷◌, Bool, true, false, ◌&&◌, ◌||◌, cond, Option, Some, None, refl, sym, ◌∙◌, ap, subst, length, length-take, get_or, take, map, arith}
+use Rattle.std.proofs.Common.{◌≡◌, ◌⊎◌, inl, inr, ℕ, zero, suc, ◌+◌, ◌-◌, ◌<◌, ◌≤◌, List, [], ◌∷◌, Bool, true, false, ◌&&◌, ◌||◌, cond, Some, None, refl, sym, ◌∙◌, ap, length, length-take, get_or, map, arith}
 use Rattle.std.specs.Prelude.{◌≢◌, ◌==◌, slice_get, slice_set, slice_index, not, min}
 use Rattle.std.specs.List.{swap_remove, list_any}
 use Rattle.std.proofs.Math.Seq.{map-set_same}
 use Rattle.std.proofs.lemmas.Option.{get_or_from_slice_get, same_Some}
-use Rattle.std.proofs.lemmas.Bool.{cases_eq, cases_lt}
-use Rattle.std.proofs.lemmas.Bool.Decides.{eqb_tells}
-use Rattle.std.proofs.lemmas.List.{length-set, get_or-take, get_or-set_same, get_or-set_other, get_or_default}
+use Rattle.std.proofs.lemmas.Bool.{cases_eq}
+use Rattle.std.proofs.lemmas.List.{get_or-take, get_or-set_same, get_or-set_other, get_or_default}
 use Rattle.std.proofs.lemmas.List.Sums.{sum_by-cons, get_or-le-sum_by}
 use Rattle.grid_types.specs.declared.owner.Owner.{Owner}
 use Rattle.page_states.specs.declared.page_state.PageState.{PageState}
@@ -52,9 +51,9 @@ out_at list at d j inside low = by (cases_eq j at)
       length list - 1,
       omega (arith, inside),
       get_or-take (length list - 1) (slice_set list at (get_or list (length list - 1) d)) j 0 short
-      ∙ ap (λ (k : ℕ). slice_index (slice_set list at (get_or list (length list - 1) d)) k) e
-      ∙ get_or-set_same list at (get_or list (length list - 1) d) 0 inside
-      ∙ get_or_default list (length list - 1) d 0 (omega (arith, inside)),
+          ∙ ap (λ (k : ℕ). slice_index (slice_set list at (get_or list (length list - 1) d)) k) e
+          ∙ get_or-set_same list at (get_or list (length list - 1) d) 0 inside
+          ∙ get_or_default list (length list - 1) d 0 (omega (arith, inside)),
       λ h. omega (arith, short, e),
     )
     by (inr n) = (
@@ -158,17 +157,17 @@ replaced_is (Live o from (Some to)) e = (o, from, to, refl)
 pub any_passes : (test : PageState → Bool) (xs : List PageState) (p : ℕ) (x : PageState) → slice_get xs p ≡ Some x → test x ≡ true → list_any test xs ≡ true
 any_passes test [] p x has e = absurd cc
 any_passes test (y ∷ xs) zero x has e = by (test y) (ap test (same_Some y x has) ∙ e) where
-    by : (b : Bool) → b ≡ true → (b || list_any test xs) ≡ true
-    by true is = refl
-    by false is = absurd cc
+  by : (b : Bool) → b ≡ true → (b || list_any test xs) ≡ true
+  by true is = refl
+  by false is = absurd cc
 any_passes test (y ∷ xs) (suc p) x has e = by (test y) (any_passes test xs p x has e) where
-    by : (b : Bool) → list_any test xs ≡ true → (b || list_any test xs) ≡ true
-    by true is = refl
-    by false is = is
+  by : (b : Bool) → list_any test xs ≡ true → (b || list_any test xs) ≡ true
+  by true is = refl
+  by false is = is
 
 pub none_passes : (test : PageState → Bool) (xs : List PageState) → ((p : ℕ) (x : PageState) → slice_get xs p ≡ Some x → test x ≡ false) → list_any test xs ≡ false
 none_passes test [] none = refl
 none_passes test (x ∷ xs) none = by (test x) (none 0 x refl) (none_passes test xs (λ p y has. none (suc p) y has)) where
-    by : (b : Bool) → b ≡ false → list_any test xs ≡ false → (b || list_any test xs) ≡ false
-    by true is rest = absurd cc
-    by false is rest = rest
+  by : (b : Bool) → b ≡ false → list_any test xs ≡ false → (b || list_any test xs) ≡ false
+  by true is rest = absurd cc
+  by false is rest = rest

@@ -1,14 +1,14 @@
 -- One page changes, and the hidden lists with it.
-use Rattle.std.proofs.Common.{◌≡◌, ◌⊎◌, inl, inr, ℕ, ◌+◌, ◌-◌, ◌*◌, ◌/◌, ◌<◌, ◌≤◌, List, [], ◌∷◌, ◌++◌, Bool, true, false, Option, Some, None, refl, sym, ◌∙◌, ap, subst, length, get_or, arith}
+use Rattle.std.proofs.Common.{◌≡◌, inl, inr, ℕ, ◌+◌, ◌-◌, ◌/◌, ◌<◌, ◌≤◌, List, [], ◌∷◌, ◌++◌, true, Option, Some, None, refl, sym, ◌∙◌, ap, subst, length, get_or, arith}
 use Rattle.std.specs.Prelude.{◌≢◌, slice_get, slice_set, slice_index}
 use Rattle.std.specs.List.{count_by, swap_remove}
-use Rattle.std.proofs.lemmas.Option.{slice_get_within, same_Some}
+use Rattle.std.proofs.lemmas.Option.{slice_get_within}
 use Rattle.std.proofs.lemmas.List.{length-set, get_or_default}
 use Rattle.grid_types.specs.declared.owner.Owner.{Owner}
 use Rattle.grid_types.specs.declared.owner.Owner.TheVariants.{Bucket, Part}
 use Rattle.page_states.specs.declared.page_state.PageState.{PageState}
 use Rattle.page_states.specs.declared.page_state.PageState.TheVariants.{Free, Claimed, Live}
-use Rattle.page_states.specs.Counts.{times, once, IsListOf}
+use Rattle.page_states.specs.Counts.{times}
 use Rattle.page_states.specs.States.{is_free, is_claimed, is_replaced, slot}
 use Rattle.page_states.specs.Sound.{is_held, Sound, AreHints, AreNewest, IsLowest}
 use Rattle.page_states.proofs.Lists.{get_set, get_set_same, get_set_other}

@@ -1,16 +1,15 @@
 -- Each call keeps what is served at a kept place.
-use Rattle.std.proofs.Common.{◌≡◌, ℕ, zero, suc, ◌<◌, List, [], ◌∷◌, Bool, true, false, ◌&&◌, ◌||◌, cond, Option, Some, None, refl, sym, ◌∙◌, ap, map, length, arith}
-use Rattle.std.specs.Prelude.{slice_get, slice_set, slice_index_or, not, Contains}
+use Rattle.std.proofs.Common.{◌≡◌, ℕ, zero, suc, ◌<◌, List, [], ◌∷◌, Bool, true, false, ◌||◌, cond, Some, None, refl, sym, ◌∙◌, ap, map, length, arith}
+use Rattle.std.specs.Prelude.{slice_get, slice_index_or, Contains}
 use Rattle.std.specs.Option.{option_map}
-use Rattle.std.specs.List.{list_any}
 use Rattle.std.proofs.lemmas.Option.{slice_get-map}
 use Rattle.grid_types.specs.declared.owner.Owner.{Owner}
 use Rattle.page_states.specs.declared.page_state.PageState.{PageState}
 use Rattle.page_states.specs.declared.page_state.PageState.TheVariants.{Free, Claimed, Live}
 use Rattle.grid_types.specs.Owners.{same_owner}
-use Rattle.page_states.specs.States.{is_replaced, is_claimed_by, is_current_at, is_kept, shows}
+use Rattle.page_states.specs.States.{is_claimed_by, is_current_at, is_kept, shows}
 use Rattle.page_states.specs.Effects.{ended, published, freed, is_gone}
-use Rattle.page_states.specs.Laws.{Keeps, PublicationKeeps, VanishingKeeps, SweepKeeps, GivingBackKeeps}
+use Rattle.page_states.specs.Laws.{PublicationKeeps, VanishingKeeps, SweepKeeps, GivingBackKeeps}
 use Rattle.page_states.proofs.Frees.{gone_no}
 use Rattle.page_states.proofs.Shown.{second_holds, same_keeps, map_same, set_same, ended_before, later_unseen}
 

@@ -1,6 +1,6 @@
 -- The replaced pages, as the anchored ones and the loose ones.
-use Rattle.std.proofs.Common.{◌≡◌, ◌⊎◌, inl, inr, ℕ, zero, suc, ◌+◌, ◌<◌, ◌≤◌, List, [], ◌∷◌, ◌++◌, Bool, true, false, Option, Some, None, refl, sym, ◌∙◌, ap, subst, length, get_or, arith}
-use Rattle.std.specs.Prelude.{◌≢◌, ◌==◌, slice_get, slice_set, slice_index}
+use Rattle.std.proofs.Common.{◌≡◌, inl, inr, ℕ, ◌+◌, ◌<◌, ◌≤◌, List, [], ◌∷◌, ◌++◌, Bool, true, false, Option, Some, None, refl, sym, ◌∙◌, ap, subst, length, get_or, arith}
+use Rattle.std.specs.Prelude.{◌==◌, slice_get, slice_set, slice_index}
 use Rattle.std.specs.List.{count_by, swap_remove}
 use Rattle.std.proofs.lemmas.Bool.{cases_eq, cases_lt}
 use Rattle.std.proofs.lemmas.List.{append_assoc, length-append}
@@ -8,11 +8,11 @@ use Rattle.std.proofs.lemmas.List.Sums.{sum_by-append, sum_by_push, count_by-le-
 use Rattle.page_states.specs.declared.page_state.PageState.{PageState}
 use Rattle.page_states.specs.declared.page_state.PageState.TheVariants.{Free}
 use Rattle.page_states.specs.Counts.{times, once, once_at, IsListOf}
-use Rattle.page_states.specs.States.{is_replaced, is_kept, is_current_at}
+use Rattle.page_states.specs.States.{is_replaced, is_kept}
 use Rattle.page_states.specs.Effects.{is_gone, NoneFrom}
 use Rattle.page_states.specs.Sound.{is_held, AreHeld, IsAmong}
 use Rattle.page_states.proofs.Lists.{get_set}
-use Rattle.page_states.proofs.Counting.{once_same, once_other, at_some, once_no, list_add, list_less, taken_out, listed_passes, passing_listed, as_many}
+use Rattle.page_states.proofs.Counting.{once_other, at_some, once_no, list_add, list_less, taken_out, listed_passes, passing_listed, as_many}
 use Rattle.page_states.proofs.Frees.{times_at, index_in, gone_no}
 use Rattle.page_states.proofs.KeptPlaces.{kept_at}
 

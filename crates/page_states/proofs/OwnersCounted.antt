@@ -1,5 +1,5 @@
 -- There are as many current pages as owners.
-use Rattle.std.proofs.Common.{◌≡◌, ◌⊎◌, inl, inr, ℕ, zero, suc, ◌+◌, ◌<◌, ◌≤◌, List, [], ◌∷◌, Bool, true, false, ◌&&◌, cond, Option, Some, None, refl, sym, ◌∙◌, ap, map, length, get_or, arith}
+use Rattle.std.proofs.Common.{◌≡◌, ℕ, suc, ◌+◌, ◌<◌, ◌≤◌, List, [], ◌∷◌, Bool, true, false, ◌&&◌, cond, Option, Some, None, refl, sym, ◌∙◌, ap, map, length, get_or, arith}
 use Rattle.std.specs.Prelude.{slice_get, is_some, nat_le}
 use Rattle.std.specs.List.{count_by, sum_by}
 use Rattle.std.proofs.lemmas.Bool.{le-leb, le-ltb}
@@ -51,7 +51,7 @@ swapped front owners (x ∷ xs) each =
     let first : sum_by (λ o. once (shows o front) x) owners ≡ once is_current x = each 0 x refl in
     let rest : sum_by (λ o. count_by (shows o front) xs) owners ≡ count_by is_current xs = swapped front owners xs (λ p y has. each (suc p) y has) in
     let split : sum_by (λ o. count_by (shows o front) (x ∷ xs)) owners ≡ sum_by (λ o. once (shows o front) x) owners + sum_by (λ o. count_by (shows o front) xs) owners =
-        sum_both (λ o. count_by (shows o front) (x ∷ xs)) (λ o. once (shows o front) x) (λ o. count_by (shows o front) xs) owners (λ o. sum_by-cons (once (shows o front)) x xs) in
+    sum_both (λ o. count_by (shows o front) (x ∷ xs)) (λ o. once (shows o front) x) (λ o. count_by (shows o front) xs) owners (λ o. sum_by-cons (once (shows o front)) x xs) in
     let sum : count_by is_current (x ∷ xs) ≡ once is_current x + count_by is_current xs = sum_by-cons (once is_current) x xs in
     omega (arith, first, rest, split, sum)
 

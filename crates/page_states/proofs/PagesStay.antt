@@ -1,8 +1,7 @@
 -- How many pages there are.
-use Rattle.std.proofs.Common.{◌≡◌, ℕ, List, [], ◌∷◌, Option, Some, None, Bool, refl, ◌∙◌, map, length}
+use Rattle.std.proofs.Common.{◌≡◌, ℕ, List, [], ◌∷◌, None, refl, ◌∙◌, map, length}
 use Rattle.std.specs.Prelude.{slice_set}
 use Rattle.std.proofs.lemmas.List.{length-set, length-map}
-use Rattle.grid_types.specs.declared.owner.Owner.{Owner}
 use Rattle.page_states.specs.declared.page_state.PageState.{PageState}
 use Rattle.page_states.specs.declared.page_state.PageState.TheVariants.{Claimed, Live}
 use Rattle.page_states.specs.Effects.{claim_all, ended, freed}

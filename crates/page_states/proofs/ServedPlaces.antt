@@ -1,9 +1,9 @@
 -- The new place of a publication.
-use Rattle.std.proofs.Common.{◌≡◌, ◌⊎◌, inl, inr, ℕ, zero, suc, ◌+◌, ◌<◌, ◌≤◌, List, [], ◌∷◌, Bool, true, false, ◌&&◌, cond, Option, Some, None, refl, sym, ◌∙◌, ap, subst, map, length, arith}
-use Rattle.std.specs.Prelude.{◌≢◌, slice_get, slice_set, is_some, nat_le, nat_lt}
+use Rattle.std.proofs.Common.{◌≡◌, ◌⊎◌, inl, inr, ℕ, suc, ◌+◌, ◌≤◌, List, [], ◌∷◌, Bool, true, false, ◌&&◌, cond, Option, Some, None, refl, sym, ◌∙◌, ap, map, arith}
+use Rattle.std.specs.Prelude.{◌≢◌, slice_get, is_some, nat_le}
 use Rattle.std.specs.Option.{option_map, option_map_or}
 use Rattle.std.specs.List.{count_by}
-use Rattle.std.proofs.lemmas.Option.{slice_get-map, slice_get_within, same_Some}
+use Rattle.std.proofs.lemmas.Option.{slice_get-map}
 use Rattle.std.proofs.lemmas.Bool.{cases_eq, le-leb, le-ltb}
 use Rattle.std.proofs.lemmas.List.Sums.{sum_by-cons}
 use Rattle.grid_types.specs.declared.owner.Owner.{Owner}
@@ -14,10 +14,9 @@ use Rattle.grid_types.specs.Owners.{same_owner}
 use Rattle.page_states.specs.States.{shows, is_current_at}
 use Rattle.page_states.specs.Effects.{ended, published}
 use Rattle.page_states.specs.Laws.{Serves, Settled, with_content, FrontServes, PublicationServes}
-use Rattle.page_states.proofs.Lists.{get_set, get_set_same, get_set_other}
-use Rattle.page_states.proofs.Counting.{none_pass, at_some, at_set_same, at_set_other, count_set}
+use Rattle.page_states.proofs.Counting.{none_pass, at_some, at_set_other, count_set}
 use Rattle.page_states.proofs.Endings.{same_owner_refl, same_owner_is}
-use Rattle.page_states.proofs.Shown.{and_false, and_true, count_same, passes_at, same_keeps, set_same, map_same}
+use Rattle.page_states.proofs.Shown.{and_false, count_same, passes_at, set_same, map_same}
 use Rattle.page_states.proofs.KeptPlaces.{claimed_still}
 
 -- a settled page shows beyond the front what it shows there
@@ -53,7 +52,7 @@ count_each test other (x ∷ xs) same =
 pub front_serves : FrontServes
 front_serves content bytes front at states later settled served =
     let same : (o : Owner) (p : ℕ) (x : PageState) → slice_get states p ≡ Some x → shows o at x ≡ shows o front x =
-        λ o p x has. beyond front at later o x (λ w from e. settled.began p w from (has ∙ ap (λ (z : PageState). Some z) e)) (λ w from to e. settled.ended_by p w from to (has ∙ ap (λ (z : PageState). Some z) e)) in
+    λ o p x has. beyond front at later o x (λ w from e. settled.began p w from (has ∙ ap (λ (z : PageState). Some z) e)) (λ w from to e. settled.ended_by p w from to (has ∙ ap (λ (z : PageState). Some z) e)) in
     record {
       one = λ o. count_each (shows o at) (shows o front) states (same o) ∙ served.one o;
       spelled = λ p o x has shown. served.spelled p o x has (sym (same o p x has) ∙ shown);

@@ -1,5 +1,5 @@
 -- How far pages began and ended.
-use Rattle.std.proofs.Common.{◌≡◌, ◌⊎◌, inl, inr, ℕ, zero, suc, ◌<◌, ◌≤◌, List, [], ◌∷◌, Bool, true, false, cond, Option, Some, None, refl, sym, ◌∙◌, ap, subst, map, replicate, arith}
+use Rattle.std.proofs.Common.{◌≡◌, ◌⊎◌, inl, inr, ℕ, ◌≤◌, List, [], ◌∷◌, Bool, true, false, cond, Option, Some, None, refl, sym, ◌∙◌, ap, map, arith}
 use Rattle.std.specs.Prelude.{slice_get, slice_set}
 use Rattle.std.specs.Option.{option_map}
 use Rattle.std.proofs.lemmas.Option.{slice_get-map, same_Some}
@@ -7,8 +7,8 @@ use Rattle.grid_types.specs.declared.owner.Owner.{Owner}
 use Rattle.grid_types.specs.Owners.{same_owner}
 use Rattle.page_states.specs.declared.page_state.PageState.{PageState}
 use Rattle.page_states.specs.declared.page_state.PageState.TheVariants.{Free, Claimed, Live}
-use Rattle.page_states.specs.Effects.{claim_all, ended, published, freed}
-use Rattle.page_states.specs.Laws.{Settled, StartSettles, PublicationSettles, VanishingSettles, FreeingSettles, ClaimSettles}
+use Rattle.page_states.specs.Effects.{ended, freed}
+use Rattle.page_states.specs.Laws.{StartSettles, PublicationSettles, VanishingSettles, FreeingSettles, ClaimSettles}
 use Rattle.page_states.proofs.Lists.{get_set}
 use Rattle.page_states.proofs.Starts.{all_free}
 

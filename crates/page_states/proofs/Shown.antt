@@ -1,20 +1,19 @@
 -- What a place shows, page by page.
-use Rattle.std.proofs.Common.{◌≡◌, ◌⊎◌, inl, inr, ℕ, zero, suc, ◌+◌, ◌<◌, ◌≤◌, List, [], ◌∷◌, Bool, true, false, ◌&&◌, cond, Option, Some, None, refl, sym, ◌∙◌, ap, subst, length, map, arith}
-use Rattle.std.specs.Prelude.{◌≢◌, slice_get, slice_set, nat_le, nat_lt}
+use Rattle.std.proofs.Common.{◌≡◌, ◌⊎◌, inl, inr, ℕ, suc, ◌+◌, ◌<◌, ◌≤◌, List, [], ◌∷◌, Bool, true, false, ◌&&◌, cond, Option, Some, None, refl, sym, ◌∙◌, ap, subst, map, arith}
+use Rattle.std.specs.Prelude.{◌≢◌, slice_get, slice_set, nat_le}
 use Rattle.std.specs.Option.{option_map, option_map_or}
 use Rattle.std.specs.List.{count_by}
-use Rattle.std.proofs.lemmas.Option.{slice_get-map, same_Some}
-use Rattle.std.proofs.lemmas.Bool.{cases_eq, leb-true, le-leb, le-ltb, lt-ltb}
+use Rattle.std.proofs.lemmas.Option.{slice_get-map}
+use Rattle.std.proofs.lemmas.Bool.{cases_eq, leb-true, lt-ltb}
 use Rattle.std.proofs.lemmas.List.Sums.{sum_by-cons}
 use Rattle.grid_types.specs.declared.owner.Owner.{Owner}
 use Rattle.page_states.specs.declared.page_state.PageState.{PageState}
 use Rattle.page_states.specs.declared.page_state.PageState.TheVariants.{Free, Claimed, Live}
 use Rattle.page_states.specs.Counts.{once, once_at}
 use Rattle.grid_types.specs.Owners.{same_owner}
-use Rattle.page_states.specs.States.{shows, is_current_at}
-use Rattle.page_states.specs.Effects.{ended, published}
-use Rattle.page_states.specs.Laws.{Serves, Keeps}
-use Rattle.page_states.proofs.Lists.{get_set_same, get_set_other}
+use Rattle.page_states.specs.States.{shows}
+use Rattle.page_states.specs.Effects.{ended}
+use Rattle.page_states.specs.Laws.{Keeps}
 use Rattle.page_states.proofs.Counting.{none_pass, at_some, at_set_same, at_set_other}
 
 pub and_false : (a : Bool) → (a && false) ≡ false

@@ -1,12 +1,11 @@
 -- A table of current pages, told number by number.
-use Rattle.std.proofs.Common.{◌≡◌, ◌⊎◌, inl, inr, ℕ, ◌+◌, ◌<◌, ◌≤◌, List, Option, Some, None, refl, sym, ◌∙◌, ap, subst, length, arith}
+use Rattle.std.proofs.Common.{◌≡◌, inl, inr, ℕ, ◌+◌, ◌<◌, List, Option, Some, None, refl, sym, ◌∙◌, ap, length, arith}
 use Rattle.std.specs.Prelude.{◌≢◌, slice_get, slice_set, slice_index}
 use Rattle.std.proofs.lemmas.Bool.{cases_eq}
 use Rattle.std.proofs.lemmas.List.{get_or-set_same, get_or-set_other}
 use Rattle.grid_types.specs.declared.owner.Owner.{Owner}
 use Rattle.page_states.specs.declared.page_state.PageState.{PageState}
 use Rattle.page_states.specs.declared.page_state.PageState.TheVariants.{Live}
-use Rattle.page_states.specs.States.{slot}
 use Rattle.page_states.specs.Current.{TellsPages}
 use Rattle.page_states.specs.Sound.{AreNewest}
 

@@ -1,12 +1,12 @@
 -- A whole change, one publication and one owner after the other.
-use Rattle.std.proofs.Common.{◌≡◌, ℕ, zero, suc, ◌+◌, ◌<◌, ◌≤◌, List, [], ◌∷◌, Option, Some, None, refl, sym, ◌∙◌, ap, map, length, arith}
-use Rattle.std.specs.Prelude.{◌≢◌, slice_get, slice_index}
+use Rattle.std.proofs.Common.{ℕ, suc, ◌<◌, ◌≤◌, List, [], ◌∷◌, Option, Some, None, ◌∙◌, map, arith}
+use Rattle.std.specs.Prelude.{◌≢◌, slice_index}
 use Rattle.grid_types.specs.declared.owner.Owner.{Owner}
 use Rattle.page_states.specs.declared.page_state.PageState.{PageState}
 use Rattle.page_states.specs.declared.page_state.PageState.TheVariants.{Live}
-use Rattle.page_states.specs.Effects.{ended, published, vanished, IsClaimed}
+use Rattle.page_states.specs.Effects.{ended, published, vanished}
 use Rattle.page_states.specs.Laws.{Serves, Settled, Keeps, with_content}
-use Rattle.page_states.specs.Changes.{Publication, pages_of, all_published, all_vanished, changed, with_pages, without_owners, ArePublishable, ChangeKeeps, ChangeServes, ChangeSettles}
+use Rattle.page_states.specs.Changes.{Publication, pages_of, all_published, all_vanished, with_pages, without_owners, ArePublishable, ChangeKeeps, ChangeServes, ChangeSettles}
 use Rattle.page_states.proofs.Lists.{get_set_other}
 use Rattle.page_states.proofs.KeptPlaces.{claimed_still, publication_keeps, vanishing_keeps}
 use Rattle.page_states.proofs.SettledPlaces.{publication_settles, vanishing_settles}

@@ -6,8 +6,8 @@ use Rattle.page_states.specs.declared.page_state.PageState.{PageState}
 use Rattle.page_states.specs.declared.page_state.PageState.TheVariants.{Free, Claimed, Live}
 use Rattle.page_states.specs.Counts.{once}
 use Rattle.grid_types.specs.Owners.{same_owner}
-use Rattle.page_states.specs.States.{is_free, is_claimed, is_claimed_by, is_current, is_replaced, is_current_at, shows}
-use Rattle.page_states.specs.Effects.{free_pages, claim_all, ended, published, vanished, given_back, swept, freed, is_gone}
+use Rattle.page_states.specs.States.{is_free, is_claimed, is_current, is_replaced, is_current_at, shows}
+use Rattle.page_states.specs.Effects.{free_pages, claim_all, published, vanished, given_back, swept, freed}
 
 -- at a place each owner that exists has exactly one page current there, which has its content, and no other owner has one
 pub record Serves (content : Owner → Option (List ℕ)) (bytes : ℕ → List ℕ) (place : ℕ) (states : List PageState) : Type 0 where

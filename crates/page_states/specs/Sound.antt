@@ -4,7 +4,7 @@ use Rattle.std.specs.List.{count_by, swap_remove}
 use Rattle.grid_types.specs.declared.owner.Owner.{Owner}
 use Rattle.grid_types.specs.declared.sizes.TheConstants.{MOST_PAGES}
 use Rattle.page_states.specs.declared.page_state.PageState.{PageState}
-use Rattle.page_states.specs.declared.page_state.PageState.TheVariants.{Free, Claimed, Live}
+use Rattle.page_states.specs.declared.page_state.PageState.TheVariants.{Free, Live}
 use Rattle.page_states.specs.Counts.{times, IsListOf}
 use Rattle.page_states.specs.States.{is_free, is_claimed, is_replaced, is_current_at, slot}
 

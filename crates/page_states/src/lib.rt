@@ -16,10 +16,11 @@ mod slot;
 mod states;
 mod sweeping;
 mod table;
-
 #[cfg(test)]
 mod tests;
 
-pub use laws::{change_law, claim_law, counted_pages, front_law, kept_places, new_place, pages_law};
+pub use laws::{
+    change_law, claim_law, counted_pages, front_law, kept_places, new_place, pages_law,
+};
 pub use page_state::PageState;
 pub use states::PageStates;

@@ -8,8 +8,14 @@ use grid_types::Owner;
 #[derive(Clone, Copy, Debug)]
 pub enum PageState {
     Free,
-    Claimed { seat: u32 },
-    Live { owner: Owner, from: u64, to: Option<u64> },
+    Claimed {
+        seat: u32,
+    },
+    Live {
+        owner: Owner,
+        from: u64,
+        to: Option<u64>,
+    },
 }
 
 /// Whether a page is current at a place.
@@ -19,14 +25,16 @@ pub(crate) fn is_current_at(place: u64, state: PageState) -> bool
     match state {
         PageState::Free => false,
         PageState::Claimed { seat: _ } => false,
-        PageState::Live { owner: _, from, to: None } => from <= place,
-        PageState::Live { owner: _, from, to: Some(to) } => {
-            if from <= place {
-                place < to
-            } else {
-                false
-            }
-        }
+        PageState::Live {
+            owner: _,
+            from,
+            to: None,
+        } => from <= place,
+        PageState::Live {
+            owner: _,
+            from,
+            to: Some(to),
+        } => { if from <= place { place < to } else { false } }
     }
 }
 
@@ -37,7 +45,11 @@ pub(crate) fn shows(owner: Owner, place: u64, state: PageState) -> bool
     match state {
         PageState::Free => false,
         PageState::Claimed { seat: _ } => false,
-        PageState::Live { owner: other, from: _, to: _ } => {
+        PageState::Live {
+            owner: other,
+            from: _,
+            to: _,
+        } => {
             if other.is(owner) {
                 is_current_at(place, state)
             } else {

@@ -5,10 +5,10 @@ ghost use Rattle.page_states.specs.States.{number_of};
 ghost use Rattle.page_states.specs.Effects.{begun, vanished, published, IsClaimed, IsCurrentFrom, HasNoPage};
 ghost use Rattle.page_states.specs.Tables.{IsTable};
 
+use crate::PageState;
 use crate::numbers::{add, index_of, take_out};
 use crate::slot::slot_of;
 use crate::table::Table;
-use crate::PageState;
 use grid_types::Owner;
 
 /// The current page of an owner, and the place where it began.
@@ -22,7 +22,13 @@ pub(crate) fn current_page(table: &Table, owner: Owner) -> Option<(u32, u64)>
         return None;
     };
     match table.states.get(page as usize) {
-        Some(PageState::Live { owner: other, from, to: None }) => {
+        Some(
+            PageState::Live {
+                owner: other,
+                from,
+                to: None,
+            },
+        ) => {
             if other.is(owner) {
                 return Some((page, *from));
             }

@@ -7,11 +7,11 @@ ghost use Rattle.page_states.specs.States.{is_free, is_claimed_by, is_replaced, 
 ghost use Rattle.page_states.specs.Effects.{Shows, ShowsNone, ShowedNone, BeganBeyond, NoneFrom};
 ghost use Rattle.page_states.specs.Tables.{IsTable};
 
+use crate::PageState;
 use crate::numbers::number_at;
 use crate::page_state::shows;
 use crate::publishing::current_page;
 use crate::table::{Table, state_at};
-use crate::PageState;
 use grid_types::Owner;
 
 /// How many pages are free.

@@ -58,7 +58,16 @@ fn pages_live_as_long_as_their_places(rt: HostRuntime) {
     match most_pages(rt.alloc()) {
         Ok(mut states) => {
             let found = lives(&mut states);
-            let want = [Some(0), Some(2), Some(3), None, Some(2), None, Some(1), Some(0)];
+            let want = [
+                Some(0),
+                Some(2),
+                Some(3),
+                None,
+                Some(2),
+                None,
+                Some(1),
+                Some(0),
+            ];
             assert_eq!(rt; found, want);
             assert_eq!(rt; states.free(), 65_532);
         }

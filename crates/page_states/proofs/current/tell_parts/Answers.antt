@@ -1,4 +1,4 @@
-use Rattle.std.proofs.Common.{arith, ◌∙◌, length}
+use Rattle.std.proofs.Common.{arith, ◌∙◌}
 use Rattle.std.proofs.lemmas.List.{length-set}
 use Rattle.grid_types.specs.declared.owner.Owner.TheVariants.{Part}
 use Rattle.page_states.proofs.Told.{tell_more}

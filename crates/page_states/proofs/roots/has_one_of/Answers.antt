@@ -1,5 +1,5 @@
-use Rattle.std.proofs.Common.{◌≡◌, ◌<◌, ◌&&◌, ℕ, Some, true, false, sym, ap, ◌∙◌, arith, length}
-use Rattle.std.specs.Prelude.{slice_get, slice_index, not}
+use Rattle.std.proofs.Common.{◌≡◌, ◌<◌, ◌&&◌, Some, true, sym, ap, ◌∙◌, arith, length}
+use Rattle.std.specs.Prelude.{slice_get, not}
 use Rattle.page_states.specs.States.{is_kept}
 use Rattle.page_states.specs.Effects.{is_of_roots}
 use Rattle.page_states.proofs.Frees.{any_passes, of_roots_yes}

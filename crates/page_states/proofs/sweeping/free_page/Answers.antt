@@ -1,5 +1,5 @@
-use Rattle.std.proofs.Common.{◌≡◌, ◌≤◌, ◌<◌, ◌/◌, ℕ, List, Some, refl, sym, ap, subst, ◌∙◌, arith, length}
-use Rattle.std.specs.Prelude.{slice_get, slice_index, slice_set, min}
+use Rattle.std.proofs.Common.{◌≤◌, ◌/◌, Some, refl, sym, ap, ◌∙◌, arith, length}
+use Rattle.std.specs.Prelude.{slice_get, slice_index, min}
 use Rattle.std.proofs.lemmas.List.{length-set, get_or_default}
 use Rattle.page_states.specs.declared.page_state.PageState.TheVariants.{Free}
 use Rattle.page_states.proofs.Olds.{loose_replaced}

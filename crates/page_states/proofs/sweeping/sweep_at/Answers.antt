@@ -1,11 +1,11 @@
-use Rattle.std.proofs.Common.{◌≡◌, ◌≤◌, ◌<◌, ℕ, List, Some, true, false, refl, sym, ap, subst, ◌∙◌, arith, length, map}
+use Rattle.std.proofs.Common.{◌≡◌, ℕ, List, Some, false, refl, sym, ap, subst, ◌∙◌, map}
 use Rattle.std.specs.Prelude.{slice_get, slice_index, slice_set}
 use Rattle.page_states.specs.declared.page_state.PageState.{PageState}
 use Rattle.page_states.specs.declared.page_state.PageState.TheVariants.{Free}
 use Rattle.page_states.specs.States.{is_kept}
 use Rattle.page_states.specs.Effects.{freed, is_gone, NoneFrom}
 use Rattle.page_states.proofs.Olds.{loose_replaced}
-use Rattle.page_states.proofs.Frees.{times_at, none_out, none_taken, freed_step, gone_yes}
+use Rattle.page_states.proofs.Frees.{times_at, none_out, freed_step, gone_yes}
 use Rattle.page_states.proofs.sweeping.sweep_at.Goals as goal
 
 pub returns-clause-states : goal.returns-clause-states

@@ -1,4 +1,4 @@
-use Rattle.std.proofs.Common.{◌≡◌, ◌<◌, ◌≤◌, ℕ, List, Some, sym, subst, ap, ◌∙◌, length, length-take, take, arith}
+use Rattle.std.proofs.Common.{◌≡◌, ◌<◌, List, Some, sym, subst, ap, ◌∙◌, length, length-take, arith}
 use Rattle.std.specs.Prelude.{slice_get, slice_index}
 use Rattle.page_states.specs.declared.page_state.PageState.{PageState}
 use Rattle.page_states.specs.declared.page_state.PageState.TheVariants.{Claimed}
