@@ -8,22 +8,22 @@ use Rattle.page_states.specs.declared.page_state.PageState.{PageState}
 use Rattle.page_states.specs.declared.page_state.PageState.TheVariants.{Free, Claimed, Live}
 use Rattle.grid_types.specs.Owners.{same_owner}
 use Rattle.page_states.specs.States.{is_claimed_by, is_current_at, is_kept, shows}
-use Rattle.page_states.specs.Effects.{ended, published, freed, is_gone}
+use Rattle.page_states.specs.Effects.{with_end, with_newest, freed, is_gone}
 use Rattle.page_states.specs.Laws.{PublicationKeeps, VanishingKeeps, SweepKeeps, GivingBackKeeps}
 use Rattle.page_states.proofs.Frees.{gone_no}
 use Rattle.page_states.proofs.Shown.{second_holds, same_keeps, map_same, set_same, ended_before, later_unseen}
 
 -- a claimed page is claimed still where an owner's page ends
-pub claimed_still : (owner : Owner) (at page seat : ℕ) (states : List PageState) → slice_get states page ≡ Some (Claimed seat) → slice_get (map (ended owner at) states) page ≡ Some (Claimed seat)
-claimed_still owner at page seat states has = slice_get-map (ended owner at) states page ∙ ap (option_map (ended owner at)) has
+pub claimed_still : (owner : Owner) (at page seat : ℕ) (states : List PageState) → slice_get states page ≡ Some (Claimed seat) → slice_get (map (with_end owner at) states) page ≡ Some (Claimed seat)
+claimed_still owner at page seat states has = slice_get-map (with_end owner at) states page ∙ ap (option_map (with_end owner at)) has
 
 pub publication_keeps : PublicationKeeps
-publication_keeps page seat at place owner states low has = same_keeps place states (published page owner at states) (λ o q.
-    set_same (shows o place) (map (ended owner at) states) page (Claimed seat) (Live owner at None) q (claimed_still owner at page seat states has) (later_unseen o owner at place low)
-    ∙ map_same (shows o place) (ended owner at) states q (ended_before o owner at place low))
+publication_keeps page seat at place owner states low has = same_keeps place states (with_newest page owner at states) (λ o q.
+    set_same (shows o place) (map (with_end owner at) states) page (Claimed seat) (Live owner at None) q (claimed_still owner at page seat states has) (later_unseen o owner at place low)
+    ∙ map_same (shows o place) (with_end owner at) states q (ended_before o owner at place low))
 
 pub vanishing_keeps : VanishingKeeps
-vanishing_keeps at place owner states low = same_keeps place states (map (ended owner at) states) (λ o q. map_same (shows o place) (ended owner at) states q (ended_before o owner at place low))
+vanishing_keeps at place owner states low = same_keeps place states (map (with_end owner at) states) (λ o q. map_same (shows o place) (with_end owner at) states q (ended_before o owner at place low))
 
 given_unseen : (o : Owner) (seat place : ℕ) (x : PageState) → shows o place (freed (is_claimed_by seat) x) ≡ shows o place x
 given_unseen o seat place Free = refl

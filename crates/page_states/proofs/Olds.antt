@@ -10,7 +10,7 @@ use Rattle.page_states.specs.declared.page_state.PageState.TheVariants.{Free}
 use Rattle.page_states.specs.Counts.{times, once, once_at, IsListOf}
 use Rattle.page_states.specs.States.{is_replaced, is_kept}
 use Rattle.page_states.specs.Effects.{is_gone, NoneFrom}
-use Rattle.page_states.specs.Sound.{is_held, AreHeld, IsAmong}
+use Rattle.page_states.specs.Sound.{is_held, AreHeld, IsAnchorAmong}
 use Rattle.page_states.proofs.Lists.{get_set}
 use Rattle.page_states.proofs.Counting.{once_other, at_some, once_no, list_add, list_less, taken_out, listed_passes, passing_listed, as_many}
 use Rattle.page_states.proofs.Frees.{times_at, index_in, gone_no}
@@ -143,11 +143,11 @@ held_less anchor list states i d inside old q x some has =
     old q x (omega (arith, some, out)) has
 
 -- a page that is held by an anchor among the places is kept
-held_is_kept : (places : List ℕ) (anchor : Option ℕ) (x : PageState) → IsAmong places anchor → is_held anchor x ≡ true → is_kept places x ≡ true
+held_is_kept : (places : List ℕ) (anchor : Option ℕ) (x : PageState) → IsAnchorAmong places anchor → is_held anchor x ≡ true → is_kept places x ≡ true
 held_is_kept places None x among e = absurd cc
 held_is_kept places (Some place) x among e = kept_at places place among.0 x among.1 among.2 e
 
 -- where the anchor is among the places, no anchored page is gone
-pub held_stay : (places : List ℕ) (anchor : Option ℕ) (list : List ℕ) (states : List PageState) → IsAmong places anchor → AreHeld anchor list states → NoneFrom (is_gone places) states list 0
+pub held_stay : (places : List ℕ) (anchor : Option ℕ) (list : List ℕ) (states : List PageState) → IsAnchorAmong places anchor → AreHeld anchor list states → NoneFrom (is_gone places) states list 0
 held_stay places anchor list states among held j x low within has =
     gone_no places x (held_is_kept places anchor x among (held (slice_index list j) x (times_at list j within) has))

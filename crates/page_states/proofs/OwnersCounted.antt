@@ -78,10 +78,10 @@ module _ (content : Owner → Option (List ℕ)) (bytes : ℕ → List ℕ) (fro
       ∙ ap (λ (b : Bool). cond {A = ℕ} (same_owner w o && b) 1 0) (and_false (nat_le from front))
       ∙ ap (λ (b : Bool). cond {A = ℕ} b 1 0) (and_false (same_owner w o)))
   shown_once p (Live w from None) has =
-      let begun : nat_le from front ≡ true = le-leb from front (settled.began p w from has) in
-      let shown : shows w front (Live w from None) ≡ true = (λ i. same_owner_refl w i && begun i) in
+      let with_current : nat_le from front ≡ true = le-leb from front (settled.began p w from has) in
+      let shown : shows w front (Live w from None) ≡ true = (λ i. same_owner_refl w i && with_current i) in
       let exists : content w ≡ Some (bytes p) = served.spelled p w (Live w from None) has shown in
-      sum_same (λ o. once (shows o front) (Live w from None)) (λ o. once (same_owner w) o) owners (λ o. plain o (nat_le from front) begun)
+      sum_same (λ o. once (shows o front) (Live w from None)) (λ o. once (same_owner w) o) owners (λ o. plain o (nat_le from front) with_current)
       ∙ listed w ∙ ap (λ (m : Option (List ℕ)). once is_some m) exists
     where
       plain : (o : Owner) (b : Bool) → b ≡ true → cond {A = ℕ} (same_owner w o && b) 1 0 ≡ cond {A = ℕ} (same_owner w o) 1 0

@@ -12,7 +12,7 @@ use Rattle.page_states.specs.declared.page_state.PageState.TheVariants.{Free, Cl
 use Rattle.page_states.specs.Counts.{once, once_at}
 use Rattle.grid_types.specs.Owners.{same_owner}
 use Rattle.page_states.specs.States.{shows, is_current_at}
-use Rattle.page_states.specs.Effects.{ended, published}
+use Rattle.page_states.specs.Effects.{with_end, with_newest}
 use Rattle.page_states.specs.Laws.{Serves, Settled, with_content, FrontServes, PublicationServes}
 use Rattle.page_states.proofs.Counting.{none_pass, at_some, at_set_other, count_set}
 use Rattle.page_states.proofs.Endings.{same_owner_refl, same_owner_is}
@@ -59,7 +59,7 @@ front_serves content bytes front at states later settled served =
     }
 
 -- another owner's page shows the same after an end
-pub ended_of_other : (o owner : Owner) (at place : ℕ) → same_owner o owner ≡ false → (x : PageState) → shows o place (ended owner at x) ≡ shows o place x
+pub ended_of_other : (o owner : Owner) (at place : ℕ) → same_owner o owner ≡ false → (x : PageState) → shows o place (with_end owner at x) ≡ shows o place x
 ended_of_other o owner at place apart Free = refl
 ended_of_other o owner at place apart (Claimed s) = refl
 ended_of_other o owner at place apart (Live w from (Some to)) = refl
@@ -82,7 +82,7 @@ ended_of_other o owner at place apart (Live w from None) = by (same_owner w owne
         ∙ ap (λ (b : Bool). b && is_current_at place (Live w from None)) (sym (unseen e))
 
 -- after its end the owner's own page is not shown at that place
-pub own_unseen : (owner : Owner) (at : ℕ) (x : PageState) → ((w : Owner) (from to : ℕ) → x ≡ Live w from (Some to) → to ≤ at) → shows owner at (ended owner at x) ≡ false
+pub own_unseen : (owner : Owner) (at : ℕ) (x : PageState) → ((w : Owner) (from to : ℕ) → x ≡ Live w from (Some to) → to ≤ at) → shows owner at (with_end owner at x) ≡ false
 own_unseen owner at Free over = refl
 own_unseen owner at (Claimed s) over = refl
 own_unseen owner at (Live w from (Some to)) over =
@@ -102,10 +102,10 @@ own_unseen owner at (Live w from None) over = by (same_owner w owner) refl
 module _ (content : Owner → Option (List ℕ)) (bytes : ℕ → List ℕ) (page seat at : ℕ) (owner : Owner) (states : List PageState) (has : slice_get states page ≡ Some (Claimed seat)) (settled : Settled at states)
     (served : Serves content bytes at states) where
   abbrev pub new : List PageState
-  new = published page owner at states
+  new = with_newest page owner at states
 
   abbrev pub middle : List PageState
-  middle = map (ended owner at) states
+  middle = map (with_end owner at) states
 
   still : slice_get middle page ≡ Some (Claimed seat)
   still = claimed_still owner at page seat states has
@@ -116,9 +116,9 @@ module _ (content : Owner → Option (List ℕ)) (bytes : ℕ → List ℕ) (pag
 
   -- no other page shows it
   middle_unseen : (q : ℕ) → once_at (shows owner at) middle q ≡ 0
-  middle_unseen q = ap (λ (m : Option PageState). option_map_or (once (shows owner at)) m 0) (slice_get-map (ended owner at) states q) ∙ by (slice_get states q) refl
+  middle_unseen q = ap (λ (m : Option PageState). option_map_or (once (shows owner at)) m 0) (slice_get-map (with_end owner at) states q) ∙ by (slice_get states q) refl
     where
-      by : (m : Option PageState) → slice_get states q ≡ m → option_map_or (once (shows owner at)) (option_map (ended owner at) m) 0 ≡ 0
+      by : (m : Option PageState) → slice_get states q ≡ m → option_map_or (once (shows owner at)) (option_map (with_end owner at) m) 0 ≡ 0
       by None e = refl
       by (Some x) e = ap (λ (b : Bool). cond b 1 0) (own_unseen owner at x (λ w from to is. settled.ended_by q w from to (e ∙ ap (λ (z : PageState). Some z) is)))
 
@@ -134,7 +134,7 @@ module _ (content : Owner → Option (List ℕ)) (bytes : ℕ → List ℕ) (pag
   other_same o apart q =
       let hidden : same_owner owner o ≡ false = hide (same_owner owner o) refl in
       set_same (shows o at) middle page (Claimed seat) (Live owner at None) q still (ap (λ (b : Bool). b && nat_le at at) hidden)
-      ∙ map_same (shows o at) (ended owner at) states q (ended_of_other o owner at at apart)
+      ∙ map_same (shows o at) (with_end owner at) states q (ended_of_other o owner at at apart)
     where
       hide : (b : Bool) → same_owner owner o ≡ b → same_owner owner o ≡ false
       hide false is = is

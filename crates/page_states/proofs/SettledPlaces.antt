@@ -7,7 +7,7 @@ use Rattle.grid_types.specs.declared.owner.Owner.{Owner}
 use Rattle.grid_types.specs.Owners.{same_owner}
 use Rattle.page_states.specs.declared.page_state.PageState.{PageState}
 use Rattle.page_states.specs.declared.page_state.PageState.TheVariants.{Free, Claimed, Live}
-use Rattle.page_states.specs.Effects.{ended, freed}
+use Rattle.page_states.specs.Effects.{with_end, freed}
 use Rattle.page_states.specs.Laws.{StartSettles, PublicationSettles, VanishingSettles, FreeingSettles, ClaimSettles}
 use Rattle.page_states.proofs.Lists.{get_set}
 use Rattle.page_states.proofs.Starts.{all_free}
@@ -25,7 +25,7 @@ mapped f xs p y has = by (slice_get xs p) refl
         (x, e, same_Some (f x) y is)
 
 -- a live page after an end was so before, or was current and ended there
-ended_from : (owner : Owner) (at : ℕ) (x : PageState) (o : Owner) (from : ℕ) (to : Option ℕ) → ended owner at x ≡ Live o from to → (x ≡ Live o from to) ⊎ ((x ≡ Live o from None) × (to ≡ Some at))
+ended_from : (owner : Owner) (at : ℕ) (x : PageState) (o : Owner) (from : ℕ) (to : Option ℕ) → with_end owner at x ≡ Live o from to → (x ≡ Live o from to) ⊎ ((x ≡ Live o from None) × (to ≡ Some at))
 ended_from owner at Free o from to e = absurd cc
 ended_from owner at (Claimed s) o from to e = absurd cc
 ended_from owner at (Live w f (Some t)) o from to e = inl e
@@ -52,9 +52,9 @@ vanishing_settles front at owner states later settled = record {
   ];
 }
   where
-    before : (p : ℕ) (o : Owner) (from : ℕ) (to : Option ℕ) → slice_get (map (ended owner at) states) p ≡ Some (Live o from to) → (slice_get states p ≡ Some (Live o from to)) ⊎ ((slice_get states p ≡ Some (Live o from None)) × (to ≡ Some at))
+    before : (p : ℕ) (o : Owner) (from : ℕ) (to : Option ℕ) → slice_get (map (with_end owner at) states) p ≡ Some (Live o from to) → (slice_get states p ≡ Some (Live o from to)) ⊎ ((slice_get states p ≡ Some (Live o from None)) × (to ≡ Some at))
     before p o from to has =
-        let x = mapped (ended owner at) states p (Live o from to) has in
+        let x = mapped (with_end owner at) states p (Live o from to) has in
         elim (ended_from owner at x.0 o from to x.2) [
           | inl e ↦ inl (x.1 ∙ ap (λ (z : PageState). Some z) e)
           | inr w ↦ inr (x.1 ∙ ap (λ (z : PageState). Some z) w.0, w.1)
@@ -64,11 +64,11 @@ pub publication_settles : PublicationSettles
 publication_settles page front at owner states later settled =
     let middle = vanishing_settles front at owner states later settled in
     record {
-      began = λ p o from has. elim (get_set (map (ended owner at) states) page p (Live owner at None) (Live o from None) has) [
+      began = λ p o from has. elim (get_set (map (with_end owner at) states) page p (Live owner at None) (Live o from None) has) [
         | inl w ↦ let is : from ≡ at = cc in omega (arith, is)
         | inr w ↦ middle.began p o from w.1
       ];
-      ended_by = λ p o from to has. elim (get_set (map (ended owner at) states) page p (Live owner at None) (Live o from (Some to)) has) [
+      ended_by = λ p o from to has. elim (get_set (map (with_end owner at) states) page p (Live owner at None) (Live o from (Some to)) has) [
         | inl w ↦ absurd cc
         | inr w ↦ middle.ended_by p o from to w.1
       ];

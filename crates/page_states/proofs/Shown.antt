@@ -12,7 +12,7 @@ use Rattle.page_states.specs.declared.page_state.PageState.TheVariants.{Free, Cl
 use Rattle.page_states.specs.Counts.{once, once_at}
 use Rattle.grid_types.specs.Owners.{same_owner}
 use Rattle.page_states.specs.States.{shows}
-use Rattle.page_states.specs.Effects.{ended}
+use Rattle.page_states.specs.Effects.{with_end}
 use Rattle.page_states.specs.Laws.{Keeps}
 use Rattle.page_states.proofs.Counting.{none_pass, at_some, at_set_same, at_set_other}
 
@@ -90,7 +90,7 @@ set_same test xs p x y q has same = by (cases_eq q p)
     by (inr n) = at_set_other test xs p q y n
 
 -- the end of a page is not seen from an earlier place
-pub ended_before : (o owner : Owner) (at place : ℕ) → place < at → (x : PageState) → shows o place (ended owner at x) ≡ shows o place x
+pub ended_before : (o owner : Owner) (at place : ℕ) → place < at → (x : PageState) → shows o place (with_end owner at x) ≡ shows o place x
 ended_before o owner at place low Free = refl
 ended_before o owner at place low (Claimed s) = refl
 ended_before o owner at place low (Live w from (Some to)) = refl

@@ -10,9 +10,9 @@ use Rattle.page_states.specs.Current.{TellsPages}
 use Rattle.page_states.specs.Sound.{AreNewest}
 
 -- an owner has at most one current page
-pub one_current : (states : List PageState) (newest : List (Option ℕ)) (p q from begun : ℕ) (owner : Owner) → AreNewest states newest → slice_get states p ≡ Some (Live owner from None) → slice_get states q ≡ Some (Live owner begun None) → p ≡ q
-one_current states newest p q from begun owner current has other =
-    let same : Some (Some p) ≡ Some (Some q) = sym (current p owner from has) ∙ current q owner begun other in
+pub one_current : (states : List PageState) (newest : List (Option ℕ)) (p q from with_current : ℕ) (owner : Owner) → AreNewest states newest → slice_get states p ≡ Some (Live owner from None) → slice_get states q ≡ Some (Live owner with_current None) → p ≡ q
+one_current states newest p q from with_current owner current has other =
+    let same : Some (Some p) ≡ Some (Some q) = sym (current p owner from has) ∙ current q owner with_current other in
     cc
 
 -- one more number is told

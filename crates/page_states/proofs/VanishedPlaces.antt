@@ -10,7 +10,7 @@ use Rattle.page_states.specs.declared.page_state.PageState.{PageState}
 use Rattle.page_states.specs.declared.page_state.PageState.TheVariants.{Free}
 use Rattle.page_states.specs.Counts.{once, once_at}
 use Rattle.page_states.specs.States.{shows}
-use Rattle.page_states.specs.Effects.{ended}
+use Rattle.page_states.specs.Effects.{with_end}
 use Rattle.page_states.specs.Laws.{Serves, Settled, with_content, VanishingServes, StartServes}
 use Rattle.page_states.proofs.Counting.{none_pass, at_some}
 use Rattle.page_states.proofs.Endings.{same_owner_is}
@@ -20,18 +20,18 @@ use Rattle.page_states.proofs.ServedPlaces.{own_unseen, ended_of_other}
 
 module _ (content : Owner → Option (List ℕ)) (bytes : ℕ → List ℕ) (at : ℕ) (owner : Owner) (states : List PageState) (settled : Settled at states) (served : Serves content bytes at states) where
   abbrev pub after : List PageState
-  after = map (ended owner at) states
+  after = map (with_end owner at) states
 
   -- no page shows the owner
   own_none : (q : ℕ) → once_at (shows owner at) after q ≡ 0
-  own_none q = ap (λ (m : Option PageState). option_map_or (once (shows owner at)) m 0) (slice_get-map (ended owner at) states q) ∙ by (slice_get states q) refl
+  own_none q = ap (λ (m : Option PageState). option_map_or (once (shows owner at)) m 0) (slice_get-map (with_end owner at) states q) ∙ by (slice_get states q) refl
     where
-      by : (m : Option PageState) → slice_get states q ≡ m → option_map_or (once (shows owner at)) (option_map (ended owner at) m) 0 ≡ 0
+      by : (m : Option PageState) → slice_get states q ≡ m → option_map_or (once (shows owner at)) (option_map (with_end owner at) m) 0 ≡ 0
       by None e = refl
       by (Some x) e = ap (λ (b : Bool). cond b 1 0) (own_unseen owner at x (λ w from to is. settled.ended_by q w from to (e ∙ ap (λ (z : PageState). Some z) is)))
 
   other_same : (o : Owner) → same_owner o owner ≡ false → (q : ℕ) → once_at (shows o at) after q ≡ once_at (shows o at) states q
-  other_same o apart q = map_same (shows o at) (ended owner at) states q (ended_of_other o owner at at apart)
+  other_same o apart q = map_same (shows o at) (with_end owner at) states q (ended_of_other o owner at at apart)
 
   after_one : (o : Owner) → count_by (shows o at) after ≡ once is_some (with_content content owner None o)
   after_one o = by (same_owner o owner) refl

@@ -4,7 +4,7 @@ use Rattle.std.specs.Prelude.{◌≢◌, slice_index}
 use Rattle.grid_types.specs.declared.owner.Owner.{Owner}
 use Rattle.page_states.specs.declared.page_state.PageState.{PageState}
 use Rattle.page_states.specs.declared.page_state.PageState.TheVariants.{Live}
-use Rattle.page_states.specs.Effects.{ended, published, vanished}
+use Rattle.page_states.specs.Effects.{with_end, with_newest, vanished}
 use Rattle.page_states.specs.Laws.{Serves, Settled, Keeps, with_content}
 use Rattle.page_states.specs.Changes.{Publication, pages_of, all_published, all_vanished, with_pages, without_owners, ArePublishable, ChangeKeeps, ChangeServes, ChangeSettles}
 use Rattle.page_states.proofs.Lists.{get_set_other}
@@ -14,12 +14,12 @@ use Rattle.page_states.proofs.ServedPlaces.{front_serves, publication_serves}
 use Rattle.page_states.proofs.VanishedPlaces.{vanishing_serves}
 
 -- the pages that are left can be published still
-others : (page at : ℕ) (owner : Owner) (pages : List ℕ) (states : List PageState) → ArePublishable (page ∷ pages) states → ArePublishable pages (published page owner at states)
+others : (page at : ℕ) (owner : Owner) (pages : List ℕ) (states : List PageState) → ArePublishable (page ∷ pages) states → ArePublishable pages (with_newest page owner at states)
 others page at owner pages states ok = record {
   claimed = λ i low.
       let apart : slice_index pages i ≢ page = ok.distinct 0 (suc i) (omega arith) (omega (arith, low)) in
       let was = ok.claimed (suc i) (omega (arith, low)) in
-      (was.0, get_set_other (map (ended owner at) states) page (slice_index pages i) (Live owner at None) apart ∙ claimed_still owner at (slice_index pages i) was.0 states was.1);
+      (was.0, get_set_other (map (with_end owner at) states) page (slice_index pages i) (Live owner at None) apart ∙ claimed_still owner at (slice_index pages i) was.0 states was.1);
   distinct = λ i j low high. ok.distinct (suc i) (suc j) (omega (arith, low)) (omega (arith, high));
 }
 
@@ -27,7 +27,7 @@ publications_keep : (place at : ℕ) (xs : List Publication) (states : List Page
 publications_keep place at [] states low ok content bytes served = served
 publications_keep place at (x ∷ xs) states low ok content bytes served =
     let first = ok.claimed 0 (omega arith) in
-    publications_keep place at xs (published x.page x.owner at states) low (others x.page at x.owner (pages_of xs) states ok) content bytes
+    publications_keep place at xs (with_newest x.page x.owner at states) low (others x.page at x.owner (pages_of xs) states ok) content bytes
     (publication_keeps x.page first.0 at place x.owner states low first.1 content bytes served)
 
 vanishings_keep : (place at : ℕ) (os : List Owner) (states : List PageState) → place < at → Keeps place states (all_vanished at os states)
@@ -39,7 +39,7 @@ change_keeps place at xs os states low ok content bytes served = vanishings_keep
 
 publications_settle : (at : ℕ) (xs : List Publication) (states : List PageState) → Settled at states → Settled at (all_published at xs states)
 publications_settle at [] states settled = settled
-publications_settle at (x ∷ xs) states settled = publications_settle at xs (published x.page x.owner at states) (publication_settles x.page at at x.owner states (omega arith) settled)
+publications_settle at (x ∷ xs) states settled = publications_settle at xs (with_newest x.page x.owner at states) (publication_settles x.page at at x.owner states (omega arith) settled)
 
 vanishings_settle : (at : ℕ) (os : List Owner) (states : List PageState) → Settled at states → Settled at (all_vanished at os states)
 vanishings_settle at [] states settled = settled
@@ -60,7 +60,7 @@ publications_serve : (content : Owner → Option (List ℕ)) (bytes : ℕ → Li
 publications_serve content bytes at [] states ok settled served = served
 publications_serve content bytes at (x ∷ xs) states ok settled served =
     let first = ok.claimed 0 (omega arith) in
-    publications_serve (with_content content x.owner (Some (bytes x.page))) bytes at xs (published x.page x.owner at states) (others x.page at x.owner (pages_of xs) states ok)
+    publications_serve (with_content content x.owner (Some (bytes x.page))) bytes at xs (with_newest x.page x.owner at states) (others x.page at x.owner (pages_of xs) states ok)
     (publication_settles x.page at at x.owner states (omega arith) settled) (publication_serves content bytes x.page first.0 at x.owner states first.1 settled served)
 
 vanishings_serve : (content : Owner → Option (List ℕ)) (bytes : ℕ → List ℕ) (at : ℕ) (os : List Owner) (states : List PageState) → Settled at states → Serves content bytes at states

@@ -2,7 +2,7 @@
 use Rattle.std.specs.Prelude.{◌≢◌, ◌<◌, ◌≤◌, ℕ, List, [], ◌∷◌, Option, Some, None, length, slice_index}
 use Rattle.grid_types.specs.declared.owner.Owner.{Owner}
 use Rattle.page_states.specs.declared.page_state.PageState.{PageState}
-use Rattle.page_states.specs.Effects.{published, vanished, IsClaimed}
+use Rattle.page_states.specs.Effects.{with_newest, vanished, IsClaimed}
 use Rattle.page_states.specs.Laws.{Serves, Settled, Keeps, with_content}
 
 -- a page that is published for an owner
@@ -18,7 +18,7 @@ pages_of (x ∷ xs) = x.page ∷ pages_of xs
 -- one publication after the other, at one place
 abbrev pub all_published : ℕ → List Publication → List PageState → List PageState
 all_published at [] states = states
-all_published at (x ∷ xs) states = all_published at xs (published x.page x.owner at states)
+all_published at (x ∷ xs) states = all_published at xs (with_newest x.page x.owner at states)
 
 -- one owner after the other vanishes, at one place
 abbrev pub all_vanished : ℕ → List Owner → List PageState → List PageState

@@ -25,19 +25,19 @@ abbrev pub claim_all : ℕ → List ℕ → List PageState → List PageState
 claim_all seat pages states = fold (claim_one seat) states pages
 
 -- the owner's current page is replaced at a place, and each other page is as it was
-abbrev pub ended : Owner → ℕ → PageState → PageState
-ended owner at Free = Free
-ended owner at (Claimed s) = Claimed s
-ended owner at (Live o from None) = cond (same_owner o owner) (Live o from (Some at)) (Live o from None)
-ended owner at (Live o from (Some to)) = Live o from (Some to)
+abbrev pub with_end : Owner → ℕ → PageState → PageState
+with_end owner at Free = Free
+with_end owner at (Claimed s) = Claimed s
+with_end owner at (Live o from None) = cond (same_owner o owner) (Live o from (Some at)) (Live o from None)
+with_end owner at (Live o from (Some to)) = Live o from (Some to)
 
 -- the page is the owner's from the place on
-abbrev pub begun : ℕ → Owner → ℕ → List PageState → List PageState
-begun page owner at states = slice_set states page (Live owner at None)
+abbrev pub with_current : ℕ → Owner → ℕ → List PageState → List PageState
+with_current page owner at states = slice_set states page (Live owner at None)
 
 -- the owner's page of before is replaced, and the page is the owner's from the place on
-abbrev pub published : ℕ → Owner → ℕ → List PageState → List PageState
-published page owner at states = begun page owner at (map (ended owner at) states)
+abbrev pub with_newest : ℕ → Owner → ℕ → List PageState → List PageState
+with_newest page owner at states = with_current page owner at (map (with_end owner at) states)
 
 -- a page that passes the test is free, and each other page is as it was
 abbrev pub freed : (PageState → Bool) → PageState → PageState
@@ -53,7 +53,7 @@ is_of_roots pins roots x = is_replaced x && (is_kept roots x && not (is_kept pin
 
 -- the owner has no page from the place on
 abbrev pub vanished : Owner → ℕ → List PageState → List PageState
-vanished owner at states = map (ended owner at) states
+vanished owner at states = map (with_end owner at) states
 
 -- the pages that the seat has claimed are free
 abbrev pub given_back : ℕ → List PageState → List PageState
@@ -76,7 +76,7 @@ abbrev pub HasNoneOf : List ℕ → List ℕ → List PageState → List ℕ →
 HasNoneOf pins roots states list = NoneFrom (is_of_roots pins roots) states list 0
 
 -- the page is the owner's at the place
-pub record Shows (owner : Owner) (place : ℕ) (states : List PageState) (p : ℕ) : Type 0 where
+pub record IsPageAt (owner : Owner) (place : ℕ) (states : List PageState) (p : ℕ) : Type 0 where
   pub state : PageState
   pub there : slice_get states p ≡ Some state
   pub shown : shows owner place state ≡ true

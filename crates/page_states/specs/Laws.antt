@@ -7,7 +7,7 @@ use Rattle.page_states.specs.declared.page_state.PageState.TheVariants.{Free, Cl
 use Rattle.page_states.specs.Counts.{once}
 use Rattle.grid_types.specs.Owners.{same_owner}
 use Rattle.page_states.specs.States.{is_free, is_claimed, is_current, is_replaced, is_current_at, shows}
-use Rattle.page_states.specs.Effects.{free_pages, claim_all, published, vanished, given_back, swept, freed}
+use Rattle.page_states.specs.Effects.{free_pages, claim_all, with_newest, vanished, given_back, swept, freed}
 
 -- at a place each owner that exists has exactly one page current there, which has its content, and no other owner has one
 pub record Serves (content : Owner → Option (List ℕ)) (bytes : ℕ → List ℕ) (place : ℕ) (states : List PageState) : Type 0 where
@@ -20,7 +20,7 @@ Keeps place old new = (content : Owner → Option (List ℕ)) (bytes : ℕ → L
 
 -- a publication keeps each place before its own
 abbrev pub PublicationKeeps : Type 0
-PublicationKeeps = (page seat at place : ℕ) (owner : Owner) (states : List PageState) → place < at → slice_get states page ≡ Some (Claimed seat) → Keeps place states (published page owner at states)
+PublicationKeeps = (page seat at place : ℕ) (owner : Owner) (states : List PageState) → place < at → slice_get states page ≡ Some (Claimed seat) → Keeps place states (with_newest page owner at states)
 
 -- so does an owner that vanishes
 abbrev pub VanishingKeeps : Type 0
@@ -73,7 +73,7 @@ FrontServes = (content : Owner → Option (List ℕ)) (bytes : ℕ → List ℕ)
 -- a publication serves its owner at its place with what the page has, and each other owner as before
 abbrev pub PublicationServes : Type 0
 PublicationServes = (content : Owner → Option (List ℕ)) (bytes : ℕ → List ℕ) (page seat at : ℕ) (owner : Owner) (states : List PageState) → slice_get states page ≡ Some (Claimed seat) → Settled at states
-    → Serves content bytes at states → Serves (with_content content owner (Some (bytes page))) bytes at (published page owner at states)
+    → Serves content bytes at states → Serves (with_content content owner (Some (bytes page))) bytes at (with_newest page owner at states)
 
 -- an owner that vanishes is served no more from its place on, and each other owner as before
 abbrev pub VanishingServes : Type 0
@@ -90,7 +90,7 @@ StartSettles = (pages front : ℕ) → Settled front (replicate pages Free)
 
 -- after a publication at the front or beyond it, that is the front
 abbrev pub PublicationSettles : Type 0
-PublicationSettles = (page front at : ℕ) (owner : Owner) (states : List PageState) → front ≤ at → Settled front states → Settled at (published page owner at states)
+PublicationSettles = (page front at : ℕ) (owner : Owner) (states : List PageState) → front ≤ at → Settled front states → Settled at (with_newest page owner at states)
 
 -- so it is after an owner vanishes
 abbrev pub VanishingSettles : Type 0
@@ -117,7 +117,7 @@ FreePagesAreCounted = (content : Owner → Option (List ℕ)) (bytes : ℕ → L
 
 -- no call changes how many pages there are
 pub record PagesStay : Type 0 where
-  pub publication : (page at : ℕ) (owner : Owner) (states : List PageState) → length (published page owner at states) ≡ length states
+  pub publication : (page at : ℕ) (owner : Owner) (states : List PageState) → length (with_newest page owner at states) ≡ length states
   pub vanishing : (at : ℕ) (owner : Owner) (states : List PageState) → length (vanished owner at states) ≡ length states
   pub claim : (seat : ℕ) (pages : List ℕ) (states : List PageState) → length (claim_all seat pages states) ≡ length states
   pub freeing : (test : PageState → Bool) (states : List PageState) → length (map (freed test) states) ≡ length states

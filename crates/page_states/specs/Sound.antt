@@ -29,12 +29,12 @@ abbrev pub lowered : List ℕ → ℕ → List ℕ
 lowered hints page = slice_set hints (page / 256) (min (slice_index hints (page / 256)) page)
 
 -- a list of numbers in no order without the one at an index
-abbrev pub without : List ℕ → ℕ → List ℕ
-without list at = swap_remove list at (slice_index list at)
+abbrev pub without_index : List ℕ → ℕ → List ℕ
+without_index list at = swap_remove list at (slice_index list at)
 
 -- there is a page of the number
-abbrev pub IsThere : List PageState → ℕ → Type 0
-IsThere states p = (x : PageState) × (slice_get states p ≡ Some x)
+abbrev pub HasPageAt : List PageState → ℕ → Type 0
+HasPageAt states p = (x : PageState) × (slice_get states p ≡ Some x)
 
 -- the free page of the least number
 pub record IsLeastFree (states : List PageState) (p : ℕ) : Type 0 where
@@ -59,8 +59,8 @@ abbrev pub AreHeld : Option ℕ → List ℕ → List PageState → Type 0
 AreHeld anchor list states = (p : ℕ) (x : PageState) → 0 < times p list → slice_get states p ≡ Some x → is_held anchor x ≡ true
 
 -- where there is an anchor, its place is one of these
-abbrev pub IsAmong : List ℕ → Option ℕ → Type 0
-IsAmong places anchor = IfSome anchor (λ place. Contains places place)
+abbrev pub IsAnchorAmong : List ℕ → Option ℕ → Type 0
+IsAnchorAmong places anchor = IfSome anchor (λ place. Contains places place)
 
 -- each page of the list is replaced
 abbrev pub AreListedReplaced : List PageState → List ℕ → Type 0

@@ -1,7 +1,7 @@
 //! The anchor: a place that is swept again and again, so that the replaced pages that are current there need not be looked at.
 ghost use Rattle.std.specs.Prelude.{◌≡◌, ◌<◌, ◌+◌, true, length, IfSome, Contains};
-ghost use Rattle.page_states.specs.Sound.{IsAmong, is_held};
-ghost use Rattle.page_states.specs.Tables.{IsTable};
+ghost use Rattle.page_states.specs.Sound.{IsAnchorAmong, is_held};
+ghost use Rattle.page_states.specs.Tables.{IsPageTable};
 
 use crate::PageState;
 use crate::numbers::{add, number_at, take_out};
@@ -20,7 +20,7 @@ pub(crate) fn is_held(anchor: Option<u64>, state: PageState) -> bool
 
 /// Whether the anchor's place is one of these.
 fn is_among(places: &[u64], anchor: Option<u64>) -> bool
-    ensures { result ≡ true → IsAmong places.now anchor }
+    ensures { result ≡ true → IsAnchorAmong places.now anchor }
 {
     let Some(place) = anchor else {
         return false;
@@ -35,7 +35,7 @@ fn is_among(places: &[u64], anchor: Option<u64>) -> bool
 
 /// The first of the places, if there is one.
 fn first_of(places: &[u64]) -> Option<u64>
-    ensures { IsAmong places.now result }
+    ensures { IsAnchorAmong places.now result }
 {
     if places.is_empty() {
         return None;
@@ -45,9 +45,9 @@ fn first_of(places: &[u64]) -> Option<u64>
 
 /// The last of the anchored pages becomes a loose one.
 fn loosen_last(table: &mut Table)
-    requires table { IsTable table.old }
+    requires table { IsPageTable table.old }
     requires some { 0 < length table.old.anchored.items }
-    ensures table { IsTable table.new }
+    ensures table { IsPageTable table.new }
     ensures states { table.new.states.items ≡ table.old.states.items }
     ensures fewer { length table.new.anchored.items + 1 ≡ length table.old.anchored.items }
 {
@@ -59,8 +59,8 @@ fn loosen_last(table: &mut Table)
 
 /// No page is anchored any more.
 fn loosen_all(table: &mut Table)
-    requires { IsTable table.old }
-    ensures table { IsTable table.new }
+    requires { IsPageTable table.old }
+    ensures table { IsPageTable table.new }
     ensures states { table.new.states.items ≡ table.old.states.items }
     ensures none { length table.new.anchored.items ≡ 0 }
 {
@@ -71,10 +71,10 @@ fn loosen_all(table: &mut Table)
 
 /// The anchor's place is one of these, from now on the first one if it was none of them.
 pub(crate) fn settle_anchor(table: &mut Table, places: &[u64])
-    requires { IsTable table.old }
-    ensures table { IsTable table.new }
+    requires { IsPageTable table.old }
+    ensures table { IsPageTable table.new }
     ensures states { table.new.states.items ≡ table.old.states.items }
-    ensures among { IsAmong places.now table.new.anchor }
+    ensures among { IsAnchorAmong places.now table.new.anchor }
 {
     let among = is_among(places, table.anchor);
     if among {

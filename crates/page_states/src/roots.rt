@@ -5,7 +5,7 @@ ghost use Rattle.page_states.specs.declared.page_state.PageState.{PageState};
 ghost use Rattle.page_states.specs.States.{is_kept, is_replaced};
 ghost use Rattle.page_states.specs.Effects.{is_of_roots, HasRootsPage, HasNoneOf};
 ghost use Rattle.page_states.specs.Sound.{AreListedReplaced};
-ghost use Rattle.page_states.specs.Tables.{IsTable};
+ghost use Rattle.page_states.specs.Tables.{IsPageTable};
 
 use crate::PageState;
 use crate::numbers::number_at;
@@ -42,7 +42,7 @@ fn has_one_of(states: &Vec<PageState>, list: &Vec<u32>, pins: &[u64], roots: &[u
 
 /// Whether a replaced page is current at a root's place and at none of the pins.
 pub(crate) fn has_roots_page(table: &Table, pins: &[u64], roots: &[u64]) -> bool
-    requires { IsTable table.now }
+    requires { IsPageTable table.now }
     ensures { result ≡ list_any (is_of_roots pins.now roots.now) table.now.states.items }
 {
     let in_loose = has_one_of(&table.states, &table.loose, pins, roots);

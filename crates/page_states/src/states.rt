@@ -7,7 +7,7 @@ ghost use Rattle.page_states.specs.declared.page_state.PageState.{PageState};
 ghost use Rattle.page_states.specs.declared.page_state.PageState.TheVariants.{Free, Claimed};
 ghost use Rattle.page_states.specs.States.{is_free, is_claimed_by, number_of, shows};
 ghost use Rattle.page_states.specs.Current.{TellsPages};
-ghost use Rattle.page_states.specs.Effects.{free_pages, claim_all, published, vanished, given_back, swept, is_of_roots, IsClaimed, Shows, ShowsNone};
+ghost use Rattle.page_states.specs.Effects.{free_pages, claim_all, with_newest, vanished, given_back, swept, is_of_roots, IsClaimed, IsPageAt, ShowsNone};
 
 use crate::claiming::claim_lowest;
 use crate::current::{tell_buckets, tell_parts};
@@ -30,13 +30,13 @@ pub struct PageStates {
 impl Model for PageStates {
     ghost use Rattle.std.specs.Prelude.{List};
     ghost use Rattle.page_states.specs.declared.page_state.PageState.{PageState};
-    ghost use Rattle.page_states.specs.Tables.{IsTable};
+    ghost use Rattle.page_states.specs.Tables.{IsPageTable};
 
     ghost Value = { List PageState };
 
     ghost view = { λ s. s.table.states.items };
 
-    ghost invariant = { λ s. IsTable s.table };
+    ghost invariant = { λ s. IsPageTable s.table };
 }
 
 impl PageStates {
@@ -57,7 +57,7 @@ impl PageStates {
         free_count(&self.table)
     }
 
-    /// The seat claims the free pages of the least numbers, as many as there are places in `out`.
+    /// Pages for a change of the seat, one for each place in `out`.
     pub fn claim(&mut self, seat: u32, out: &mut [u32])
         requires { length out.old ≤ count_by is_free self.old }
         ensures pages { out.new ≡ take (length out.old) (free_pages self.old) }
@@ -66,16 +66,16 @@ impl PageStates {
         claim_lowest(&mut self.table, seat, out);
     }
 
-    /// A claimed page becomes the owner's current one from a place on, and the owner's page of before ends there.
+    /// What a seat wrote to a page that it had claimed is the owner's from the place of its update on.
     pub fn publish(&mut self, page: u32, owner: Owner, at: u64)
         requires known { number_of owner < length self.old }
         requires claimed { IsClaimed self.old page }
-        ensures { self.new ≡ published page owner at self.old }
+        ensures { self.new ≡ with_newest page owner at self.old }
     {
         publish_page(&mut self.table, page, owner, at);
     }
 
-    /// The owner has no page from a place on.
+    /// An owner is no more, as a bucket that was merged into another one.
     pub fn vanish(&mut self, owner: Owner, at: u64)
         requires { number_of owner < length self.old }
         ensures { self.new ≡ vanished owner at self.old }
@@ -83,7 +83,7 @@ impl PageStates {
         end_page(&mut self.table, owner, at);
     }
 
-    /// Each page that the seat has claimed is free.
+    /// What a seat claimed and did not publish is free again.
     pub fn give_back(&mut self, seat: u32)
         ensures { self.new ≡ given_back seat self.old }
     {
@@ -97,23 +97,25 @@ impl PageStates {
         has_claims(&self.table, seat)
     }
 
-    /// The page of an owner that is or was current at a place.
+    /// The page in which an owner is found by whoever has this place pinned. The current page is found at once; of the others, those that were
+    /// replaced last are looked at first.
     pub fn page_at(&self, owner: Owner, place: u64) -> Option<u32>
         requires { number_of owner < length self.now }
-        ensures found { IfSome result (λ p. Shows owner place self.now p) }
+        ensures found { IfSome result (λ p. IsPageAt owner place self.now p) }
         ensures none { IfNone result (ShowsNone owner place self.now) }
     {
         page_of(&self.table, owner, place)
     }
 
-    /// Each replaced page that is current at none of the places is free.
+    /// Frees what no kept place needs. It is fast where the place that is kept longest, as the newest root's, is the first: what this one keeps
+    /// is not looked at again as long as it is among the places.
     pub fn sweep(&mut self, places: &[u64])
         ensures { self.new ≡ swept places.now self.old }
     {
         sweep_all(&mut self.table, places);
     }
 
-    /// Whether a page would be free if the roots' places were not kept, but the pins.
+    /// Whether a newer root would free a page. It looks at each replaced page until it finds one.
     pub fn would_free(&self, pins: &[u64], roots: &[u64]) -> bool
         ensures { result ≡ list_any (is_of_roots pins.now roots.now) self.now }
     {

@@ -1,10 +1,10 @@
 use Rattle.std.proofs.Common.{◌≡◌, length}
-use Rattle.page_states.specs.Tables.{IsTable}
+use Rattle.page_states.specs.Tables.{IsPageTable}
 use Rattle.page_states.proofs.anchors.loosen_all.Given as goal
 
 abbrev pub invariant-loop-table : goal.invariant-loop-table
 invariant-loop-table l = record {
-  table : IsTable l.table;
+  table : IsPageTable l.table;
   states : l.table.states.items ≡ l.fn.table.states.items;
 }
 
