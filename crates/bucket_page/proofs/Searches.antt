@@ -3,7 +3,7 @@ use Rattle.std.proofs.Common.{◌≡◌, ℕ, List, None, sym, get_or}
 use Rattle.grid_types.specs.declared.update.Record.{Record}
 use Rattle.grid_model.specs.Tables.{get, pairs_of}
 use Rattle.grid_model.proofs.TableLaws.{one_key}
-use Rattle.bucket_page.specs.Buckets.{Ascends}
+use Rattle.bucket_page.proofs.Tables.{Ascends}
 use Rattle.bucket_page.specs.Search.{HasRecordAt, IsFoundAt, FitsBefore}
 use Rattle.bucket_page.proofs.Places.{found_there, found_before}
 

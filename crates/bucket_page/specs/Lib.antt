@@ -1,5 +1,6 @@
 pub mod Buckets
-pub mod Lawful
-pub mod Reading
+pub mod OnPage
+pub mod Judging
+pub mod Putting
 pub mod Search
 pub mod Laws

@@ -1,17 +1,29 @@
-//! Bucket pages: a bucket as the bytes of a page, and as a table.
+//! Bucket pages: a bucket as the bytes of a page, both ways; a page judged, searched, read and changed where it lies; and a
+//! bucket in memory as a table.
 #![tactic(auto)]
 
 mod bucket;
-mod lawful;
+mod head;
+mod judging;
 mod laws;
+mod matching;
+mod putting;
 mod reading;
+mod record;
 mod search;
+mod searching;
 mod table;
+mod words;
 mod writing;
 
 pub use bucket::{Bucket, MOST_IN_MEMORY};
+pub use head::Head;
+pub use judging::judge;
 pub use laws::spelling_law;
+pub use matching::{count_matching, push_matching};
+pub use putting::{insert_into, replace_into};
 pub use reading::decode;
+pub use searching::{data_on, find_on, get_on, record_on};
 pub use writing::encode;
 
 #[cfg(test)]

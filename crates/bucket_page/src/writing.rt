@@ -2,6 +2,8 @@
 ghost use Rattle.std.specs.Prelude.{◌≡◌, ◌≤◌, ◌+◌, ◌++◌, take};
 ghost use Rattle.arrayvec.specs.ArrayVec.{array_vec_len};
 ghost use Rattle.grid_types.specs.declared.sizes.TheConstants.{HEAD_BYTES, MOST_ATTRIBUTES, MOST_RECORDS, PAGE_BYTES, RECORD_BYTES};
+ghost use Rattle.grid_types.specs.Keys.{IsKey};
+ghost use Rattle.grid_model.specs.Tables.{IsData};
 ghost use Rattle.grid_model.specs.Spellings.{record_bytes, bucket_head, bucket_spelling};
 ghost use Rattle.grid_model.specs.Buckets.{IsBucket, SpellsBucket};
 ghost use Rattle.bucket_page.specs.Buckets.{bucket_of};
@@ -10,11 +12,15 @@ use crate::Bucket;
 use grid_types::{DATA_AT, HEAD_BYTES, KEY_BYTES, PAGE_BYTES, RECORD_BYTES, Record};
 use page_fields::{put_bytes, put_corner, put_zeros, set_u16, set_u32};
 
-fn put_row<const K: usize>(page: &mut [u8; PAGE_BYTES], at: usize, row: &Record<K>)
+/// Writes a record into the `RECORD_BYTES` bytes at an offset.
+pub fn put_row<const K: usize>(page: &mut [u8; PAGE_BYTES], at: usize, row: &Record<K>)
     requires room { at + RECORD_BYTES ≤ PAGE_BYTES }
     requires few { K ≤ MOST_ATTRIBUTES }
     ensures front { take (at + RECORD_BYTES) page.new ≡ take at page.old ++ record_bytes row.now }
+    ensures key { IsKey K row.now.key.numbers }
+    ensures short { IsData row.now.value }
 {
+    let _numbers = row.key.numbers();
     let bytes = row.value.bytes();
     put_corner(page, at, &row.key.numbers);
     let from = at + DATA_AT;

@@ -1,47 +1,59 @@
-use Rattle.std.proofs.Common.{◌<◌, ◌∙◌, length, refl, ap, sym, subst, arith, []}
-use Rattle.std.proofs.lemmas.Bool.{false≢true}
+use Rattle.std.proofs.Common.{◌≡◌, ◌<◌, ◌+◌, ◌*◌, ◌∙◌, ◌∷◌, ◌++◌, [], ℕ, List, length, drop, ap, sym, subst, arith}
 use Rattle.grid_types.specs.declared.update.Record.{Record}
+use Rattle.page_fields.specs.Fields.{number}
 use Rattle.bucket_page.specs.declared.bucket.Bucket.{Bucket}
-use Rattle.grid_model.specs.Spellings.{bucket_spelling}
+use Rattle.bucket_page.specs.declared.head.Head.{Head}
+use Rattle.grid_model.specs.Spellings.{BucketOf}
+use Rattle.grid_model.specs.Buckets.{SpellsBucket}
 use Rattle.bucket_page.specs.Buckets.{bucket_of}
-use Rattle.bucket_page.specs.Lawful.{AreLawfulFields}
-use Rattle.bucket_page.proofs.Standing.{bucket_there, bucket_read, one_bucket, lawful_as_read, lawful_fields}
+use Rattle.bucket_page.specs.OnPage.{record_at, records_at, bucket_told}
+use Rattle.bucket_page.proofs.OnPage.{told, row_of, rows_more, length-rows}
 use Rattle.bucket_page.proofs.reading.decode.Goals as goal
 
-pub returns-then-count-capacity-clause-none : goal.returns-then-count-capacity-clause-none
-returns-then-count-capacity-clause-none g c = λ b s.
-    let there = bucket_there g.row.K c.args.capacity c.args.page.now b c.requires.few c.requires.lawful s.lawful s.bytes in
-    omega (arith, there.count, s.lawful.count, c.get_u16-count.ensures, c.if-count-capacity.true)
+-- the bucket in memory that the model sees as this one
+abbrev bucket_in_memory : {K : ℕ} → BucketOf K → Bucket K
+bucket_in_memory b = record { number = b.number; turn = b.box.turn; region = b.box.region; rows = record { items = b.rows } }
 
-pub returns-then-not-read_rows-clause-none : goal.returns-then-not-read_rows-clause-none
-returns-then-not-read_rows-clause-none g c = λ b s.
-    let there = bucket_there g.row.K c.args.capacity c.args.page.now b c.requires.few c.requires.lawful s.lawful s.bytes in
-    let long = c.read_rows.ensures.long c.if-not-read_rows.true in
-    let some : Record g.row.K = record { key = record { numbers = [] }; value = [] } in
-    let lt : long.0 < length b.rows.items = omega (arith, long.1, there.count, c.get_u16-count.ensures) in
-    omega (arith, long.2, (there.rows long.0 some lt).short)
-
-pub returns-then-is_spelled-clause-found : goal.returns-then-is_spelled-clause-found
-returns-then-is_spelled-clause-found g c =
-    let ok = c.if-not-read_rows.false in
-    let yes = c.if-is_spelled.true in
-    let b : Bucket g.row.K = record { number = c.get_u32.result; turn = _; region = record { lo = c.get_corner.result; hi = c.get_corner-2.result }; rows = c.read_rows.new.rows } in
-    let read = bucket_read g.row.K c.args.page.now b c.get_u32.ensures (omega arith) refl c.get_corner.ensures c.get_corner-2.ensures (c.read_rows.ensures.count ok ∙ c.get_u16-count.ensures) (c.read_rows.ensures.found ok) in
+pub loop-i-preserved : goal.loop-i-preserved
+loop-i-preserved g c =
+    let K = g.row.K in
+    let page = c.args.page.now in
+    let n = number 2 (drop 8 page) in
+    let i = c.loop-i.i in
+    let inv = c.loop-i.invariant in
+    let d : Record K = record_at K page 0 in
+    let count : c.in-Some.head.count ≡ n = ap (λ (h : Head K). h.count) c.in-Some.ensures.head in
+    let lt : i < n = omega (arith, count, c.loop-i-test.true) in
+    let all : length (records_at K page 96 n) ≡ n = length-rows K page 96 n in
+    let here : c.record_on.result ≡ record_at K page (96 + 80 * i) =
+    c.record_on.ensures d c.args.capacity (bucket_told K page) c.in-Some.ensures.spelled (omega (arith, all, count, c.in-Some.ensures.count, c.requires.lawful)) (omega (arith, lt, all)) ∙ row_of K page 96 n i d lt in
     record {
-      lawful = lawful_as_read g.row.K c.args.capacity c.args.page.now b read (omega (arith, c.read_rows.ensures.count ok, c.if-count-capacity.false)) (c.is_spelled.ensures.lawful yes);
-      bytes = c.is_spelled.ensures.bytes yes;
+      number = inv.number;
+      turn = inv.turn;
+      region = inv.region;
+      len = omega (arith, c.push.ensures.len, inv.len);
+      rows = c.push.ensures.items
+          ∙ ap (λ (rs : List (Record K)). rs ++ c.record_on.result ∷ []) inv.rows
+          ∙ ap (λ (r : Record K). records_at K page 96 i ++ r ∷ []) here
+          ∙ sym (rows_more K page 96 i);
     }
 
-pub returns-then-is_spelled-clause-only : goal.returns-then-is_spelled-clause-only
-returns-then-is_spelled-clause-only g c = λ b s.
-    let ok = c.if-not-read_rows.false in
-    let there = bucket_there g.row.K c.args.capacity c.args.page.now b c.requires.few c.requires.lawful s.lawful s.bytes in
-    one_bucket g.row.K c.args.page.now b _ there (bucket_read g.row.K c.args.page.now _ c.get_u32.ensures (omega arith) refl c.get_corner.ensures c.get_corner-2.ensures (c.read_rows.ensures.count ok ∙ c.get_u16-count.ensures) (c.read_rows.ensures.found ok))
+pub returns-clause-found : goal.returns-clause-found
+returns-clause-found g c =
+    let K = g.row.K in
+    let page = c.args.page.now in
+    let n = number 2 (drop 8 page) in
+    let inv = c.loop-i.invariant in
+    let count : c.in-Some.head.count ≡ n = ap (λ (h : Head K). h.count) c.in-Some.ensures.head in
+    let end : c.loop-i.i ≡ n = omega (arith, count, c.loop-i-test.false, c.loop-i.auto.i-end) in
+    let all : c.loop-i.bucket.rows.items ≡ records_at K page 96 n = inv.rows ∙ ap (records_at K page 96) end in
+    let same : bucket_of c.loop-i.bucket ≡ bucket_told K page = λ j. record { number = inv.number j; box = record { region = inv.region j; turn = inv.turn j }; rows = all j } in
+    subst (SpellsBucket c.args.capacity page) (sym same) c.in-Some.ensures.spelled
 
-pub returns-else-is_spelled-clause-none : goal.returns-else-is_spelled-clause-none
-returns-else-is_spelled-clause-none g c = λ b s.
-    let ok = c.if-not-read_rows.false in
-    let there = bucket_there g.row.K c.args.capacity c.args.page.now b c.requires.few c.requires.lawful s.lawful s.bytes in
-    let same = one_bucket g.row.K c.args.page.now b _ there (bucket_read g.row.K c.args.page.now _ c.get_u32.ensures (omega arith) refl c.get_corner.ensures c.get_corner-2.ensures (c.read_rows.ensures.count ok ∙ c.get_u16-count.ensures) (c.read_rows.ensures.found ok)) in
-    let yes = c.is_spelled.ensures.all (subst AreLawfulFields (sym same) (lawful_fields g.row.K c.args.capacity b s.lawful)) (s.bytes ∙ ap (λ (x : Bucket g.row.K). bucket_spelling (bucket_of x)) (sym same)) in
-    false≢true (sym c.if-is_spelled.false ∙ yes)
+pub returns-clause-only : goal.returns-clause-only
+returns-clause-only g c = λ b s.
+    let K = g.row.K in
+    let same : bucket_of c.loop-i.bucket ≡ bucket_of b =
+    told K c.args.capacity c.args.page.now (bucket_of c.loop-i.bucket) c.requires.few c.requires.lawful c.fits-page (returns-clause-found g c)
+    ∙ sym (told K c.args.capacity c.args.page.now (bucket_of b) c.requires.few c.requires.lawful c.fits-page s) in
+    ap bucket_in_memory same
