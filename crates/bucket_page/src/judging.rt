@@ -1,5 +1,5 @@
 //! Whether a page spells a bucket, judged where it lies: nothing of it is copied or spelled again.
-ghost use Rattle.std.specs.Prelude.{◌≡◌, ◌≤◌, ◌↔◌, IsTrue, IfSome, OnSome, IfNone};
+ghost use Rattle.std.specs.Prelude.{◌≡◌, ◌≤◌, ◌↔◌, IsTrue, length, IfSome, OnSome, IfNone};
 ghost use Rattle.grid_types.specs.declared.sizes.TheConstants.{MOST_ATTRIBUTES, MOST_RECORDS};
 ghost use Rattle.grid_model.specs.Spellings.{BucketOf};
 ghost use Rattle.grid_model.specs.Buckets.{SpellsBucket};
@@ -76,6 +76,7 @@ pub fn judge<const K: usize>(page: &[u8; PAGE_BYTES], capacity: u16) -> Option<H
     ensures head { IfSome result (λ h. h ≡ head_told K page.now) }
     ensures spelled { OnSome result (SpellsBucket capacity page.now (bucket_told K page.now)) }
     ensures count { IfSome result (λ h. h.count ≤ capacity) }
+    ensures records { IfSome result (λ h. length (bucket_told K page.now).rows ≡ h.count) }
     ensures none { IfNone result ((b : BucketOf K) → SpellsBucket capacity page.now b → ⊥) }
 {
     let head = read_head(page);
