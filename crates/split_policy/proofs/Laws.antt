@@ -1,6 +1,6 @@
 -- The cut of the model keeps the laws of a rule.
 use Rattle.std.proofs.Common.{◌≡◌, ◌<◌, ◌≤◌, ◌⊎◌, inl, inr, ℕ, Bool, true, false, not, List, [], ◌∷◌, length, slice_index, map, filter, nat_lt, nat_le, Contains, IsTrue, Option, Some, None, refl, sym, ap, ◌∙◌, arith, true≢false}
-use Rattle.std.specs.Prelude.{IfSome}
+use Rattle.std.specs.Prelude.{IfSome, All}
 use Rattle.std.proofs.lemmas.Bool.{cases_lt, ltb-true, lt-ltb, le-leb, and_from, and_parts, false_from_ne_true}
 use Rattle.std.proofs.lemmas.List.{get_or_past}
 use Rattle.std.proofs.lemmas.List.Elements.{All-contains}
@@ -17,7 +17,6 @@ use Rattle.grid_model.specs.Cuts.{cut, is_within, divides, may_grow, left_part, 
 use Rattle.grid_model.specs.CutLaws.{IsCandidate, IsValue}
 use Rattle.grid_model.proofs.CutLaws.{cuts-best}
 use Rattle.grid_model.proofs.Members.{contains-first, contains-from-filter, contains-from-map, contains-among}
-use Rattle.split_policy.specs.Rows.{LieIn}
 
 -- what holds of each cut that may have been answered
 pub each-answer : (o : Option Cut) (P : Cut → Type 0) → ((c : Cut) → o ≡ Some c → P c) → IfSome o P
@@ -40,7 +39,7 @@ some-kept {X = X} p xs e = by (filter p xs) e (λ x h. (x, (contains-from-filter
     by (y ∷ ys) e h = h y (contains-first y ys)
 
 -- a value of one of the keys of a region that divides them lies within the region
-value-within : {K : ℕ} (r : Region K) (keys : List (List ℕ)) (a v : ℕ) → LieIn r keys → is_among (map (λ k. slice_index k a) keys) v ≡ true → divides keys a v ≡ true → is_within r a v ≡ true
+value-within : {K : ℕ} (r : Region K) (keys : List (List ℕ)) (a v : ℕ) → All (λ k. contains r k ≡ true) keys → is_among (map (λ k. slice_index k a) keys) v ≡ true → divides keys a v ≡ true → is_within r a v ≡ true
 value-within r keys a v h m d =
     let low = some-kept (λ k. nat_lt (slice_index k a) v) keys (and_parts (nat_lt 0 (length (left_part keys a v))) (nat_lt 0 (length (right_part keys a v))) d).0 in
     let here = contains-from-map (λ (k : List ℕ). slice_index k a) keys v (contains-among (map (λ k. slice_index k a) keys) v m) in
@@ -71,11 +70,11 @@ module _ {K : ℕ} (shape : Shape) (scales keys : List (List ℕ)) (b : BucketBo
   divides-of c (Old f o) = o.divides
   divides-of c (New f none n) = n.divides
 
-  within-of : LieIn b.region keys → (c : Cut) → Chosen c → is_within b.region c.attribute c.value ≡ true
+  within-of : All (λ k. contains b.region k ≡ true) keys → (c : Cut) → Chosen c → is_within b.region c.attribute c.value ≡ true
   within-of h c (Old f o) = o.within
   within-of h c (New f none n) = value-within b.region keys c.attribute c.value h n.value n.divides
 
-  fresh-of : LieIn b.region keys → (c : Cut) → Chosen c → c.fresh ≡ not (is_among (scale_of scales c.attribute) c.value)
+  fresh-of : All (λ k. contains b.region k ≡ true) keys → (c : Cut) → Chosen c → c.fresh ≡ not (is_among (scale_of scales c.attribute) c.value)
   fresh-of h c (Old f o) = f ∙ ap not (sym o.boundary)
   fresh-of h c (New f none n) =
       f
@@ -99,11 +98,11 @@ module _ {K : ℕ} (shape : Shape) (scales keys : List (List ℕ)) (b : BucketBo
   cut-divides c e = divides-of c (chosen c e)
 
   -- it lies within the region of the keys
-  pub cut-within : LieIn b.region keys → (c : Cut) → cut shape scales b keys ≡ Some c → IsTrue (is_within b.region c.attribute c.value)
+  pub cut-within : All (λ k. contains b.region k ≡ true) keys → (c : Cut) → cut shape scales b keys ≡ Some c → IsTrue (is_within b.region c.attribute c.value)
   cut-within h c e = within-of h c (chosen c e)
 
   -- it is fresh exactly where it is no boundary
-  pub cut-fresh : LieIn b.region keys → (c : Cut) → cut shape scales b keys ≡ Some c → c.fresh ≡ not (is_among (scale_of scales c.attribute) c.value)
+  pub cut-fresh : All (λ k. contains b.region k ≡ true) keys → (c : Cut) → cut shape scales b keys ≡ Some c → c.fresh ≡ not (is_among (scale_of scales c.attribute) c.value)
   cut-fresh h c e = fresh-of h c (chosen c e)
 
   -- and a fresh one keeps the limits

@@ -13,9 +13,9 @@ keys_of rows = map (λ r. r.key.numbers) rows
 abbrev pub numbers_in : List (List ℕ) → ℕ → List ℕ
 numbers_in keys a = map (λ k. slice_index k a) keys
 
--- each key lies in the region
-abbrev pub LieIn : {K : ℕ} → Region K → List (List ℕ) → Type 0
-LieIn r keys = All (λ k. IsTrue (contains r k)) keys
+-- each record lies in the region
+abbrev pub LieIn : {K : ℕ} → Region K → List (Record K) → Type 0
+LieIn r rows = All (λ row. IsTrue (contains r row.key.numbers)) rows
 
 -- how many of some numbers lie below a number
 abbrev pub count_below : List ℕ → ℕ → ℕ

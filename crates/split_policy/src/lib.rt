@@ -10,3 +10,6 @@ mod rule;
 
 pub use median::Median;
 pub use rule::{CutRule, MOST_ROWS};
+
+#[cfg(test)]
+mod tests;

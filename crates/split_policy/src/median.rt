@@ -59,9 +59,9 @@ impl<const K: usize> CutRule<K> for Median {
         ensures attribute { IfSome result (λ c. c.attribute < K) }
         ensures divides { IfSome result
             (λ c. IsTrue (divides (keys_of rows.now) c.attribute c.value)) }
-        ensures within { LieIn region.now (keys_of rows.now)
+        ensures within { LieIn region.now rows.now
             → IfSome result (λ c. IsTrue (is_within region.now c.attribute c.value)) }
-        ensures fresh { LieIn region.now (keys_of rows.now)
+        ensures fresh { LieIn region.now rows.now
             → IfSome result (λ c.
             c.fresh ≡ not (is_among (scale_of (scales_of scales.now) c.attribute) c.value)) }
         ensures limits { IfSome result (λ c. IsTrue c.fresh
