@@ -16,7 +16,7 @@ pub const MOST_ROWS: usize = MOST_RECORDS + 1;
 /// A rule by which a bucket with too many records is cut in two.
 pub trait CutRule<const K: usize> {
     /// Where to cut the bucket of a region whose records, with the one that has no room, are these. `turn` is the attribute
-    /// that the rule may prefer. No cut means that the record is not to be taken.
+    /// that the rule may prefer. Without a cut the record is not to be taken. It takes no memory.
     fn cut(
         &self,
         rows: &[Record<K>],
