@@ -1,16 +1,11 @@
 -- The best of candidates, one after the other.
-use Rattle.std.proofs.Common.{◌≡◌, ◌<◌, ◌+◌, take, get_or, ℕ, Bool, true, false, cond, ◌&&◌, List, [], ◌∷◌, ◌++◌, length, map, filter, fold, nat_lt, Option, Some, None, option_map, refl, sym, ap, ◌∙◌}
-use Rattle.std.proofs.lemmas.List.{append-nil, map-append, take_more}
-use Rattle.std.proofs.lemmas.List.Sums.{fold_push}
+use Rattle.std.proofs.Common.{◌≡◌, ◌<◌, ◌+◌, take, get_or, ℕ, Bool, true, false, cond, List, [], ◌∷◌, ◌++◌, length, map, filter, fold, Option, Some, None, option_map, refl, ap, ◌∙◌}
+use Rattle.std.proofs.lemmas.List.{map-append, take_more}
 use Rattle.std.proofs.lemmas.List.Elements.{filter-append}
-use Rattle.std.proofs.lemmas.Option.{none-some, same_Some}
 use Rattle.grid_model.specs.Lists.{lower, least, ranks_below}
-use Rattle.grid_model.specs.Cuts.{divides, best_value, dividing_values, rank, left_part, right_part, apart_by}
-use Rattle.grid_model.proofs.Choosing.{map-some, map-none}
-use Rattle.grid_model.proofs.LeastLaws.{no-least}
-use Rattle.split_policy.specs.declared.candidate.Candidate.{Candidate}
+use Rattle.grid_model.specs.Cuts.{divides, best_value, dividing_values, rank}
 use Rattle.split_policy.specs.Rows.{numbers_in}
-use Rattle.split_policy.specs.Candidates.{measured, rank_of, dividing, best_of}
+use Rattle.split_policy.specs.Candidates.{measured, dividing, best_of}
 
 module _ {X Y : Type 0} (f : X → Y) (rank : Y → List ℕ) where
   lower-image : (t : Bool) (x y : X) → cond t (f y) (f x) ≡ f (cond t y x)
