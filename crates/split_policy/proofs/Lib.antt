@@ -1,0 +1,10 @@
+pub mod Best
+pub mod Counting
+pub mod Inside
+pub mod Values
+pub mod Attributes
+pub mod Growing
+pub mod Firsts
+pub mod Turns
+pub mod Choices
+pub mod Laws

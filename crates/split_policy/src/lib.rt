@@ -1,0 +1,15 @@
+//! Where a bucket with too many records is cut.
+#![tactic(auto)]
+
+mod candidate;
+mod existing;
+mod median;
+mod numbers;
+mod refinement;
+mod rule;
+
+pub use median::Median;
+pub use rule::{CutRule, MOST_ROWS};
+
+#[cfg(test)]
+mod tests;

@@ -1,0 +1,40 @@
+//! Rules by which a bucket is cut.
+ghost use Rattle.std.specs.Prelude.{◌≡◌, ◌<◌, ◌≤◌, length, not, IsTrue, IfSome};
+ghost use Rattle.grid_types.specs.declared.sizes.TheConstants.{MOST_ATTRIBUTES};
+ghost use Rattle.grid_model.specs.Lists.{is_among};
+ghost use Rattle.grid_model.specs.Scales.{scale_of};
+ghost use Rattle.grid_model.specs.Cuts.{is_within, divides, may_grow};
+ghost use Rattle.linear_scales.specs.Limited.{scales_of};
+ghost use Rattle.split_policy.specs.Rows.{keys_of, LieIn};
+
+use grid_types::{Cut, MOST_ATTRIBUTES, MOST_RECORDS, Record, Region, Shape};
+use linear_scales::Scales;
+
+/// The most records that are cut: those of a full bucket, and one more.
+pub const MOST_ROWS: usize = MOST_RECORDS + 1;
+
+/// A rule by which a bucket with too many records is cut in two.
+pub trait CutRule<const K: usize> {
+    /// Where to cut the bucket of a region whose records, with the one that has no room, are these. `turn` is the attribute
+    /// that the rule may prefer. Without a cut the record is not to be taken. It takes no memory.
+    fn cut(
+        &self,
+        rows: &[Record<K>],
+        scales: &Scales<K>,
+        region: &Region<K>,
+        turn: u8,
+        shape: &Shape,
+    ) -> Option<Cut>
+        requires attributes { K ≤ MOST_ATTRIBUTES }
+        requires few { length rows.now ≤ MOST_ROWS }
+        ensures attribute { IfSome result (λ c. c.attribute < K) }
+        ensures divides { IfSome result
+            (λ c. IsTrue (divides (keys_of rows.now) c.attribute c.value)) }
+        ensures within { LieIn region.now rows.now
+            → IfSome result (λ c. IsTrue (is_within region.now c.attribute c.value)) }
+        ensures fresh { LieIn region.now rows.now
+            → IfSome result (λ c.
+            c.fresh ≡ not (is_among (scale_of (scales_of scales.now) c.attribute) c.value)) }
+        ensures limits { IfSome result (λ c. IsTrue c.fresh
+            → IsTrue (may_grow shape.now (scales_of scales.now) c.attribute)) };
+}
