@@ -9,8 +9,8 @@ ghost use Rattle.bucket_page.specs.Judging.{AreRecordsIn, KeysAscend, AreSoundRe
 use crate::Head;
 use crate::head::{is_sound_head, read_head};
 use crate::record::{is_below, is_record};
-use crate::words::are_zeros;
 use grid_types::{HEAD_BYTES, PAGE_BYTES, RECORD_BYTES, Region};
+use page_fields::zeros;
 
 /// Whether so many records stand behind the head, each with its zeros and in the region.
 fn are_records<const K: usize>(page: &[u8; PAGE_BYTES], count: usize, region: &Region<K>) -> bool
@@ -57,7 +57,7 @@ fn are_sound_records<const K: usize>(
     if !keys_ascend::<K>(page, count) {
         return false;
     }
-    are_zeros(page, HEAD_BYTES + RECORD_BYTES * count, PAGE_BYTES)
+    zeros(page, HEAD_BYTES + RECORD_BYTES * count, PAGE_BYTES)
 }
 
 /// Whether all that stands around the fields of a page with that head is as it has to be, and the fields are lawful.

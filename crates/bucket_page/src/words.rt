@@ -1,4 +1,4 @@
-//! Whether bytes of a page are 0, judged by words.
+//! Whether a few bytes of a page are 0, judged by words: a gap between fields costs less so than as a slice.
 ghost use Rattle.std.specs.Prelude.{◌≤◌, ◌<◌, ◌+◌, ◌↔◌, IsTrue};
 ghost use Rattle.grid_types.specs.declared.sizes.TheConstants.{PAGE_BYTES};
 ghost use Rattle.page_fields.specs.Fields.{AreZeros};

@@ -10,6 +10,6 @@ returns-then-not-keys_ascend g c = (λ h. absurd (false≢true h), λ s. absurd 
 
 pub returns : goal.returns
 returns g c = (
-  λ h. record { each = c.are_records.ensures.0 c.if-not-are_records.false; ascending = c.keys_ascend.ensures.0 c.if-not-keys_ascend.false; tail = c.are_zeros.ensures.0 h },
-  λ s. c.are_zeros.ensures.1 s.tail,
+  λ h. record { each = c.are_records.ensures.0 c.if-not-are_records.false; ascending = c.keys_ascend.ensures.0 c.if-not-keys_ascend.false; tail = c.zeros.ensures.0 h },
+  λ s. c.zeros.ensures.1 s.tail,
 )
