@@ -1,6 +1,6 @@
 //! Candidates for a cut.
-ghost use Rattle.std.specs.Prelude.{◌≡◌, ◌++◌, ◌∷◌, ◌&&◌, [], ℕ, List, length, nat_lt};
-ghost use Rattle.grid_model.specs.Lists.{ranks_below, lower};
+ghost use Rattle.std.specs.Prelude.{◌≡◌, ◌++◌, ◌∷◌, ◌&&◌, [], ℕ, List, length, nat_lt, IsTrue, MatchOption};
+ghost use Rattle.grid_model.specs.Lists.{ranks_below};
 ghost use Rattle.grid_model.specs.Cuts.{left_part, right_part, apart_by};
 ghost use Rattle.split_policy.specs.Candidates.{rank_of, dividing, best_of};
 
@@ -28,14 +28,15 @@ impl Candidate {
     }
 }
 
-/// Which of two candidates is better: the other one only where it ranks below this one.
-fn lower(first: Candidate, second: Candidate) -> Candidate
-    ensures { result ≡ lower rank_of first second }
+/// Whether a candidate is the first one, or better than the best so far.
+fn is_better(candidate: &Candidate, best: &Option<Candidate>) -> bool
+    ensures { MatchOption best.now
+        (IsTrue result)
+        (λ old. result ≡ ranks_below (rank_of candidate.now) (rank_of old)) }
 {
-    if second.ranks_below(&first) {
-        second
-    } else {
-        first
+    match best {
+        None => true,
+        Some(old) => candidate.ranks_below(old),
     }
 }
 
@@ -57,30 +58,24 @@ fn divides(left: usize, right: usize) -> bool
     0 < left && 0 < right
 }
 
-/// The best of the candidates so far and of a boundary that makes parts of these sizes, where it divides the records.
-pub fn better(
-    best: Option<Candidate>,
-    attribute: u8,
-    value: u64,
-    left: usize,
-    right: usize,
-) -> Option<Candidate>
+/// Makes the best of the candidates so far the best of these and of a boundary that makes parts of these sizes, where it
+/// divides the records.
+pub fn consider(best: &mut Option<Candidate>, attribute: u8, value: u64, left: usize, right: usize)
     ensures { (keys : List (List ℕ)) (candidates : List (ℕ × ℕ))
         → length (left_part keys attribute value) ≡ left
         → length (right_part keys attribute value) ≡ right
-        → best ≡ best_of keys candidates
-        → result ≡ best_of keys (candidates ++ dividing keys attribute (value ∷ [])) }
+        → best.old ≡ best_of keys candidates
+        → best.new ≡ best_of keys (candidates ++ dividing keys attribute (value ∷ [])) }
 {
     if !divides(left, right) {
-        return best;
+        return;
     }
     let candidate = Candidate {
         difference: apart_by(left, right),
         attribute,
         value,
     };
-    match best {
-        None => Some(candidate),
-        Some(old) => Some(lower(old, candidate)),
+    if is_better(&candidate, best) {
+        *best = Some(candidate);
     }
 }

@@ -10,7 +10,7 @@ ghost use Rattle.split_policy.specs.Rows.{keys_of, AreAscending};
 ghost use Rattle.split_policy.specs.Candidates.{measured, dividing, best_of};
 
 use crate::MOST_ROWS;
-use crate::candidate::{Candidate, better};
+use crate::candidate::{Candidate, consider};
 use crate::numbers::{ascending, below};
 use grid_types::{MOST_ATTRIBUTES, Record, Region};
 use linear_scales::{Scale, Scales};
@@ -47,7 +47,7 @@ fn best_among(
     let mut left = 0;
     for value in boundaries {
         left = below(numbers, left, *value);
-        best = better(best, attribute, *value, left, numbers.len() - left);
+        consider(&mut best, attribute, *value, left, numbers.len() - left);
     }
     best
 }

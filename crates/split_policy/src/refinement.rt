@@ -11,7 +11,7 @@ ghost use Rattle.split_policy.specs.Rows.{keys_of};
 ghost use Rattle.split_policy.specs.Candidates.{measured};
 
 use crate::MOST_ROWS;
-use crate::candidate::{Candidate, better};
+use crate::candidate::{Candidate, consider};
 use crate::numbers::{ascending, below};
 use grid_types::{Cut, MOST_ATTRIBUTES, Record, Shape};
 use linear_scales::Scales;
@@ -65,7 +65,7 @@ fn best_value<const K: usize>(rows: &[Record<K>], a: usize) -> Option<Candidate>
     for row in rows {
         let value = row.key.numbers[a];
         let left = below(&numbers, 0, value);
-        best = better(best, a as u8, value, left, numbers.len() - left);
+        consider(&mut best, a as u8, value, left, numbers.len() - left);
     }
     best
 }

@@ -14,7 +14,7 @@ loop-value-preserved c =
     let v = get_or c.args.boundaries.now c.loop-value.value-index 0 in
     record {
       best = λ keys cs h e.
-          c.better-best.ensures keys (cs ++ dividing keys a (take i bs))
+          c.consider.ensures keys (cs ++ dividing keys a (take i bs))
           (left-counted keys a ns h v ∙ sym c.below-left.ensures.count)
           (right-counted keys a ns h v ∙ ap (λ n. length ns - n) (sym c.below-left.ensures.count))
           (c.loop-value.invariant.best keys cs h e)

@@ -16,7 +16,7 @@ loop-row-preserved g c =
     let i = c.loop-row.row-index in
     let v = slice_index c.row-item.result.key.numbers c.args.a in
     let count = c.below-left.ensures.count ∙ ap (λ ns. count_below ns v) c.deref.ensures.0 in
-    c.better-best.ensures keys (dividing keys a (take i vs))
+    c.consider.ensures keys (dividing keys a (take i vs))
     (left-counted keys a ns c.ascending-numbers.ensures v ∙ sym count)
     (right-counted keys a ns c.ascending-numbers.ensures v ∙ (λ j. sym c.len.ensures.value j - sym count j))
     c.loop-row.invariant
