@@ -2,7 +2,8 @@
 use Rattle.std.proofs.Common.{◌≡◌, ◌<◌, ◌≤◌, ◌+◌, ◌++◌, ℕ, Bool, true, false, cond, ◌||◌, List, [], ◌∷◌, length, slice_index, nat_lt, filter, IsTrue, refl, sym, ap, ◌∙◌, arith, true≢false}
 use Rattle.std.proofs.lemmas.Bool.{lt-ltb, le-ltb, ne_eqb}
 use Rattle.grid_model.specs.Lists.{is_among}
-use Rattle.grid_model.specs.Scales.{ascends_from, is_scale, low, refined, top}
+use Rattle.grid_types.specs.Keys.{top}
+use Rattle.grid_model.specs.Scales.{ascends_from, is_scale, low, refined}
 use Rattle.grid_model.proofs.ScaleLaws.{starts, tops, goes-on, ascending}
 use Rattle.linear_scales.specs.Limited.{LimitedScale}
 use Rattle.linear_scales.specs.declared.refused.ScaleRefused.{ScaleRefused}

@@ -3,7 +3,8 @@ use Rattle.std.specs.Prelude.{◌≡◌, ◌<◌, ◌≤◌, ℕ, List, false, l
 use Rattle.std.specs.Ordering.{nat_cmp}
 use Rattle.std.specs.FinMap.Entries.{is_sorted}
 use Rattle.grid_model.specs.Lists.{is_among}
-use Rattle.grid_model.specs.Scales.{top, scale_of, is_scale, interval, refined_at}
+use Rattle.grid_types.specs.Keys.{top}
+use Rattle.grid_model.specs.Scales.{scale_of, is_scale, interval, refined_at}
 use Rattle.grid_model.specs.Cells.{dims, cell_of, corner, image_of}
 use Rattle.grid_model.specs.ScaleLaws.{IsCell}
 use Rattle.grid_model.specs.Layouts.{Layout, EachBox, IsDrawn, number_at}

@@ -2,7 +2,8 @@
 use Rattle.std.proofs.Common.{◌≡◌, ◌≢◌, ◌<◌, ◌≤◌, ◌+◌, ◌⊎◌, inl, inr, ℕ, zero, suc, Bool, true, false, cond, ◌||◌, ◌==◌, List, [], ◌∷◌, length, slice_index, nat_lt, take, drop, filter, refl, sym, ap, ◌∙◌, arith, true≢false, eqb-true}
 use Rattle.std.proofs.lemmas.Bool.{cases_lt, lt-ltb, le-ltb, eq-eqb, ne_eqb, or_left, or_right, or_from}
 use Rattle.grid_model.specs.Lists.{is_among}
-use Rattle.grid_model.specs.Scales.{ascends_from, interval, top}
+use Rattle.grid_types.specs.Keys.{top}
+use Rattle.grid_model.specs.Scales.{ascends_from, interval}
 use Rattle.grid_model.proofs.ScaleLaws.{tops, goes-on, each-from, counted, uncounted}
 
 -- each boundary is a number of the attribute

@@ -3,7 +3,8 @@ use Rattle.std.proofs.Common.{◌≡◌, ◌<◌, ◌≤◌, ◌+◌, ◌⊎◌,
 use Rattle.std.proofs.lemmas.Bool.{cases_lt}
 use Rattle.std.proofs.lemmas.List.{length-map, length-append}
 use Rattle.grid_model.specs.Lists.{is_among}
-use Rattle.grid_model.specs.Scales.{ascends_from, is_scale, interval, low, lows, high, highs, top}
+use Rattle.grid_types.specs.Keys.{top}
+use Rattle.grid_model.specs.Scales.{ascends_from, is_scale, interval, low, lows, high, highs}
 use Rattle.grid_model.proofs.ScaleLaws.{goes-on, tops, each-from, counted, in-first, interval-grows, has-bounds}
 use Rattle.grid_model.proofs.Boundaries.{each-top, among-index}
 

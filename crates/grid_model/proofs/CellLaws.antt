@@ -3,7 +3,8 @@ use Rattle.std.proofs.Common.{◌≡◌, ◌<◌, ◌≤◌, ◌+◌, ◌-◌, �
 use Rattle.std.proofs.lemmas.Bool.{cases_lt, lt-ltb, le-ltb}
 use lib.Pointwise.{pointwise}
 use Rattle.grid_types.proofs.Numbers.{first, second}
-use Rattle.grid_model.specs.Lists.{from_to, zip_with, choices, is_among}
+use Rattle.grid_types.specs.Lists.{zip_with}
+use Rattle.grid_model.specs.Lists.{from_to, choices, is_among}
 use Rattle.grid_model.specs.Scales.{scale_of, is_scale, interval, refined}
 use Rattle.grid_model.specs.Cells.{dims, cell_of, image_of, interval_before}
 use Rattle.grid_model.specs.ScaleLaws.{IsCell, HaveIndices}

@@ -4,10 +4,9 @@ use Rattle.std.specs.Ordering.{eq_by_cmp}
 use Rattle.std.specs.Cmp.{nat_cmp_total}
 use Rattle.std.specs.FinMap.Entries.{put, find-put, is_sorted, is_sorted-put, length-put}
 use Rattle.grid_types.specs.declared.layout_change.Cut.{Cut}
-use Rattle.grid_types.specs.Regions.{contains, IsRegion}
+use Rattle.grid_types.specs.Regions.{contains, IsRegion, is_within}
 use Rattle.grid_types.proofs.Numbers.{both, first, second}
 use Rattle.grid_model.specs.Layouts.{BucketBox, Layout, box, holder, EachBox, Apart}
-use Rattle.grid_model.specs.Cuts.{is_within}
 use Rattle.grid_model.specs.Notes.{left_of, right_of, split}
 use Rattle.grid_model.proofs.CutRegions.{left-contains, right-contains}
 use Rattle.grid_model.proofs.Found.{one-number, ties-itself, no-tie, two-numbers}

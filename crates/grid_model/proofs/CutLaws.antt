@@ -8,10 +8,11 @@ use Rattle.std.proofs.lemmas.List.FromFn.{get_or-map-range_with_len, length-map-
 use Rattle.grid_types.specs.declared.shape.Shape.{Shape}
 use Rattle.grid_types.specs.declared.layout_change.Cut.{Cut}
 use Rattle.grid_types.proofs.Numbers.{both, first, second}
+use Rattle.grid_types.specs.Regions.{is_within}
 use Rattle.grid_model.specs.Lists.{below, first_some, ranks_below}
 use Rattle.grid_model.specs.Scales.{scale_of}
 use Rattle.grid_model.specs.Layouts.{BucketBox}
-use Rattle.grid_model.specs.Cuts.{cut, is_within, divides, candidates, candidates_in, existing_in, best_existing, rank, dividing_values, best_value, value_rank, may_grow, cycle, old_cut, new_cut, refinement, refinements}
+use Rattle.grid_model.specs.Cuts.{cut, divides, candidates, candidates_in, existing_in, best_existing, rank, dividing_values, best_value, value_rank, may_grow, cycle, old_cut, new_cut, refinement, refinements}
 use Rattle.grid_model.specs.CutLaws.{IsCandidate, IsValue, IsBestOld, IsBestNew, CutsBest}
 use Rattle.grid_model.proofs.LeastLaws.{least-is-one, none-below-least, no-least}
 use Rattle.grid_model.proofs.Members.{contains-none, contains-filter, contains-from-filter, contains-map, contains-from-map, contains-flat, contains-from-flat, contains-range, contains-from-range, contains-among, among-from-contains}

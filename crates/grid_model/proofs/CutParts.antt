@@ -7,13 +7,13 @@ use lib.Pointwise.{pointwise}
 use Rattle.grid_types.specs.declared.layout_change.Cut.{Cut}
 use Rattle.grid_types.specs.declared.region.Region.{Region}
 use Rattle.grid_types.specs.declared.shape.Shape.{Shape}
-use Rattle.grid_types.specs.Regions.{contains, IsRegion}
+use Rattle.grid_types.specs.Regions.{contains, IsRegion, is_within}
 use Rattle.grid_types.proofs.Numbers.{both, first, second, each-at-most, as-long}
 use Rattle.grid_model.specs.Lists.{is_among}
 use Rattle.grid_model.specs.Scales.{scale_of}
 use Rattle.grid_model.specs.Tables.{Table, with_data}
 use Rattle.grid_model.specs.Layouts.{BucketBox, records_inside}
-use Rattle.grid_model.specs.Cuts.{cut, is_within, divides, left_part, right_part}
+use Rattle.grid_model.specs.Cuts.{cut, divides, left_part, right_part}
 use Rattle.grid_model.specs.Notes.{keys_with, left_of, right_of}
 use Rattle.grid_model.specs.CutLaws.{CutsBest}
 use Rattle.grid_model.proofs.CutRegions.{left-contains, right-contains, above-low, up-to-high}

@@ -3,10 +3,9 @@ use Rattle.std.proofs.Common.{◌≡◌, ◌<◌, ◌≤◌, ◌-◌, ℕ, zero,
 use lib.Pointwise.{pointwise}
 use Rattle.grid_types.specs.declared.layout_change.Cut.{Cut}
 use Rattle.grid_types.specs.declared.region.Region.{Region}
-use Rattle.grid_types.specs.Regions.{contains, IsRegion}
+use Rattle.grid_types.specs.Regions.{contains, IsRegion, is_within}
 use Rattle.grid_types.proofs.Numbers.{both, first, second}
 use Rattle.grid_model.specs.Layouts.{BucketBox}
-use Rattle.grid_model.specs.Cuts.{is_within}
 use Rattle.grid_model.specs.Notes.{left_of, right_of}
 use Rattle.grid_model.specs.LayoutLaws.{PartsRegion}
 

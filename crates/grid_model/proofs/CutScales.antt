@@ -6,8 +6,9 @@ use Rattle.std.specs.Ordering.{eq_by_cmp}
 use Rattle.grid_types.specs.declared.layout_change.Cut.{Cut}
 use Rattle.grid_types.specs.declared.shape.Shape.{Shape}
 use Rattle.grid_types.proofs.Numbers.{both, first, second}
+use Rattle.grid_types.specs.Keys.{top}
 use Rattle.grid_model.specs.Lists.{is_among, product}
-use Rattle.grid_model.specs.Scales.{scale_of, is_scale, is_drawn, refined, lows, highs, intervals, top}
+use Rattle.grid_model.specs.Scales.{scale_of, is_scale, is_drawn, refined, lows, highs, intervals}
 use Rattle.grid_model.specs.Cells.{cells, dims}
 use Rattle.grid_model.specs.Cuts.{may_grow, cells_with}
 use Rattle.grid_model.specs.Notes.{scales_after}

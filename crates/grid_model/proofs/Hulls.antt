@@ -1,5 +1,5 @@
 -- The hull of two regions that together are a box has the keys of both, and no other.
-use Rattle.std.proofs.Common.{◌≡◌, ◌≢◌, ◌<◌, ◌≤◌, ◌+◌, ℕ, zero, suc, min, max, Bool, true, false, ◌&&◌, ◌||◌, List, [], ◌∷◌, length, slice_index, slice_set, nat_le, ◌==◌, refl, sym, ap, subst, ◌∙◌, arith, ◌⊎◌, inl, inr, true≢false, eqb-true}
+use Rattle.std.proofs.Common.{◌≡◌, ◌≢◌, ◌<◌, ◌≤◌, ◌+◌, ℕ, zero, suc, min, max, Bool, true, false, ◌&&◌, ◌||◌, List, length, slice_index, slice_set, nat_le, ◌==◌, refl, sym, ap, subst, ◌∙◌, arith, ◌⊎◌, inl, inr, true≢false, eqb-true}
 use Rattle.std.proofs.lemmas.Bool.{or_left, or_right, or_cases, cases_lt, cases_eq}
 use Rattle.std.proofs.Math.Bool.{or_comm}
 use Rattle.std.proofs.Math.Nat.{min_comm, max_comm}
@@ -8,23 +8,11 @@ use Rattle.std.proofs.lemmas.List.{get_or-set_other}
 use Rattle.std.specs.List.{list_any, range_with_len}
 use lib.Pointwise.{pointwise, bytes_decides}
 use Rattle.grid_types.specs.declared.region.Region.{Region}
-use Rattle.grid_types.specs.Regions.{contains, IsRegion}
+use Rattle.grid_types.specs.Regions.{contains, IsRegion, hull, make_a_box, touch_along, same_but, one_follows}
 use Rattle.grid_types.proofs.Numbers.{both, first, second, each-at-most, all-at-most, as-long}
-use Rattle.grid_model.specs.Lists.{zip_with, is_among}
+use Rattle.grid_types.proofs.Zipped.{long-zip, zip-at, zip-turned}
+use Rattle.grid_model.specs.Lists.{is_among}
 use Rattle.grid_model.specs.Scales.{lows, highs, is_drawn}
-use Rattle.grid_model.specs.Neighbours.{hull, make_a_box, touch_along, same_but, one_follows}
-
-long-zip : (f : ℕ → ℕ → ℕ) (xs ys : List ℕ) → length xs ≡ length ys → length (zip_with f xs ys) ≡ length xs
-long-zip f [] ys e = refl
-long-zip f (x ∷ xs) [] e = absurd (omega (arith, e))
-long-zip f (x ∷ xs) (y ∷ ys) e = omega (arith, long-zip f xs ys (omega (arith, e)))
-
-zip-at : (f : ℕ → ℕ → ℕ) → f 0 0 ≡ 0 → (xs ys : List ℕ) (a : ℕ) → length xs ≡ length ys → slice_index (zip_with f xs ys) a ≡ f (slice_index xs a) (slice_index ys a)
-zip-at f z [] [] a e = sym z
-zip-at f z [] (y ∷ ys) a e = absurd (omega (arith, e))
-zip-at f z (x ∷ xs) [] a e = absurd (omega (arith, e))
-zip-at f z (x ∷ xs) (y ∷ ys) zero e = refl
-zip-at f z (x ∷ xs) (y ∷ ys) (suc a) e = zip-at f z xs ys a (omega (arith, e))
 
 min-among : (ns : List ℕ) (x y : ℕ) → is_among ns x ≡ true → is_among ns y ≡ true → is_among ns (min x y) ≡ true
 min-among ns x y p q = by (cases_lt x y)
@@ -169,12 +157,6 @@ one-passes p i (suc n) e = by (p i) refl e (one-passes p (i + 1) n)
     by : (t : Bool) → p i ≡ t → (t || list_any p (range_with_len (i + 1) n)) ≡ true → (list_any p (range_with_len (i + 1) n) ≡ true → (a : ℕ) × (p a ≡ true)) → (a : ℕ) × (p a ≡ true)
     by true h q rest = (i, h)
     by false h q rest = rest q
-
-zip-turned : (f : ℕ → ℕ → ℕ) → ((x y : ℕ) → f x y ≡ f y x) → (xs ys : List ℕ) → zip_with f xs ys ≡ zip_with f ys xs
-zip-turned f turn [] [] = refl
-zip-turned f turn [] (y ∷ ys) = refl
-zip-turned f turn (x ∷ xs) [] = refl
-zip-turned f turn (x ∷ xs) (y ∷ ys) = λ i. turn x y i ∷ zip-turned f turn xs ys i
 
 hull-turned : {K : ℕ} (r s : Region K) → hull r s ≡ hull s r
 hull-turned r s = λ i. record { lo = zip-turned min min_comm r.lo s.lo i; hi = zip-turned max max_comm r.hi s.hi i }

@@ -1,5 +1,5 @@
 -- A lawful note keeps a layout sound.
-use Rattle.std.proofs.Common.{◌≡◌, ◌≢◌, ◌<◌, ◌≤◌, ◌+◌, ◌-◌, ◌^◌, ◌⊎◌, inl, inr, ℕ, Bool, true, false, List, [], map, length, get_or, slice_index, slice_set, Option, Some, None, refl, sym, ap, subst, ◌∙◌, arith, IsTrue, Contains, nat_cmp}
+use Rattle.std.proofs.Common.{◌≡◌, ◌≢◌, ◌<◌, ◌≤◌, ◌+◌, ◌-◌, ◌^◌, ◌⊎◌, inl, inr, ℕ, Bool, true, false, List, [], map, length, get_or, slice_index, slice_set, Option, Some, None, refl, sym, subst, ◌∙◌, arith, IsTrue, Contains, nat_cmp}
 use Rattle.std.proofs.lemmas.List.{length-set, length-map, get_or-map, get_or-set_same, get_or-set_other}
 use Rattle.std.specs.Ordering.{eq_by_cmp}
 use Rattle.std.specs.Option.{option_map_or}

@@ -1,6 +1,7 @@
 -- The lowest key of a cell.
 use Rattle.std.proofs.Common.{◌≡◌, ◌<◌, ◌≤◌, ℕ, zero, suc, true, List, [], ◌∷◌, length, slice_index, refl, ap, arith}
-use Rattle.grid_model.specs.Scales.{is_scale, interval, low, scale_of, top}
+use Rattle.grid_types.specs.Keys.{top}
+use Rattle.grid_model.specs.Scales.{is_scale, interval, low, scale_of}
 use Rattle.grid_model.specs.Cells.{dims, cell_of, corner}
 use Rattle.grid_model.specs.ScaleLaws.{IsCell}
 use Rattle.grid_model.proofs.Bounds.{low-lies, low-top}

@@ -9,12 +9,12 @@ use Rattle.grid_types.specs.declared.update.Update.{Update}
 use Rattle.grid_types.specs.declared.update.Update.TheVariants.{Put, Remove}
 use Rattle.grid_types.specs.declared.layout_change.LayoutChange.TheVariants as note
 use Rattle.grid_types.specs.Keys.{IsKey}
-use Rattle.grid_types.specs.Regions.{contains, IsRegion}
+use Rattle.grid_types.specs.Regions.{contains, IsRegion, make_a_box, hull}
 use Rattle.grid_model.specs.Tables.{Table, without, effect}
 use Rattle.grid_model.specs.Lawful.{IsUpdateOf}
 use Rattle.grid_model.specs.Layouts.{BucketBox, Layout, box, holder, records_inside, EachBox, Apart, IsDrawn, IsSound}
 use Rattle.grid_model.specs.Scales.{scale_of}
-use Rattle.grid_model.specs.Neighbours.{make_a_box, hull, fit_together}
+use Rattle.grid_model.specs.Neighbours.{fit_together}
 use Rattle.grid_model.specs.Notes.{updated_key, together, joined, after_note, merges, IsLawfulNote}
 use Rattle.grid_model.specs.LayoutLaws.{StandsOver, IsMerge}
 use Rattle.grid_model.proofs.Boxes.{one-value, some-not-none, one-box}

@@ -5,11 +5,11 @@ use Rattle.std.specs.Ordering.{eq_by_cmp}
 use lib.Pointwise.{pointwise}
 use Rattle.grid_types.specs.declared.sizes.TheConstants.{LEAST_RECORDS, MOST_RECORDS, MOST_ATTRIBUTES}
 use Rattle.grid_types.specs.declared.shape.Shape.{Shape}
-use Rattle.grid_types.specs.Keys.{IsKey}
+use Rattle.grid_types.specs.Keys.{IsKey, top}
 use Rattle.grid_types.specs.Regions.{contains, IsRegion}
 use Rattle.grid_types.specs.Shapes.{is_shape, is_from_to, has_lawful_buckets, has_lawful_pages, has_lawful_bounds}
 use Rattle.grid_types.proofs.Numbers.{both, first, second, all-at-most}
-use Rattle.grid_model.specs.Scales.{scale_of, is_scale, is_drawn, top}
+use Rattle.grid_model.specs.Scales.{scale_of, is_scale, is_drawn}
 use Rattle.grid_model.specs.Cells.{cells}
 use Rattle.grid_model.specs.Layouts.{BucketBox, box, holder, whole, new_layout}
 use Rattle.grid_model.specs.LayoutLaws.{StandsOver}

@@ -3,8 +3,9 @@ use Rattle.std.proofs.Common.{◌≡◌, ◌<◌, ◌≤◌, ℕ, zero, suc, Boo
 use lib.Pointwise.{pointwise}
 use Rattle.grid_types.specs.Regions.{contains}
 use Rattle.grid_types.proofs.Numbers.{both, first, second, all-at-most, each-at-most, as-long}
+use Rattle.grid_types.specs.Keys.{top}
 use Rattle.grid_model.specs.Lists.{is_among}
-use Rattle.grid_model.specs.Scales.{is_scale, interval, lows, highs, scale_of, top}
+use Rattle.grid_model.specs.Scales.{is_scale, interval, lows, highs, scale_of}
 use Rattle.grid_model.specs.Cells.{cell_of}
 use Rattle.grid_model.specs.Layouts.{BucketBox, IsDrawn}
 use Rattle.grid_model.proofs.Bounds.{begins-below, ends-above}

@@ -13,13 +13,13 @@ use Rattle.grid_types.specs.declared.shape.Shape.{Shape}
 use Rattle.grid_types.specs.declared.layout_change.Cut.{Cut}
 use Rattle.grid_types.specs.declared.layout_change.LayoutChange.{LayoutChange}
 use Rattle.grid_types.specs.declared.layout_change.LayoutChange.TheVariants as note
-use Rattle.grid_types.specs.Regions.{contains}
+use Rattle.grid_types.specs.Regions.{contains, make_a_box}
 use Rattle.grid_types.proofs.Each.{fails-last}
 use Rattle.grid_types.proofs.Numbers.{first, second, one-above}
-use Rattle.grid_model.specs.Scales.{top}
+use Rattle.grid_types.specs.Keys.{top}
 use Rattle.grid_model.specs.Tables.{Table, get, without}
 use Rattle.grid_model.specs.Layouts.{BucketBox, Layout, box, holder, records_inside}
-use Rattle.grid_model.specs.Neighbours.{Direction, Below, Above, directions_of, directions, probe, make_a_box, fit_together, can_join, if_joins, joins, partners}
+use Rattle.grid_model.specs.Neighbours.{Direction, Below, Above, directions_of, directions, probe, fit_together, can_join, if_joins, joins, partners}
 use Rattle.grid_model.specs.Cuts.{cut}
 use Rattle.grid_model.specs.Notes.{merges, merges_at, put_note, put_note_at, cut_note, keys_with}
 use Rattle.grid_model.proofs.Boxes.{one-box}

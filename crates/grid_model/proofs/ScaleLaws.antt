@@ -2,8 +2,9 @@
 use Rattle.std.proofs.Common.{◌≡◌, ◌<◌, ◌≤◌, ◌+◌, ◌⊎◌, ◌++◌, inl, inr, ℕ, zero, suc, pred, Bool, true, false, cond, ◌&&◌, ◌||◌, ◌==◌, ◌↔◌, List, [], ◌∷◌, length, slice_index, nat_lt, nat_le, filter, IsTrue, refl, sym, ap, ◌∙◌, subst, arith, true≢false}
 use Rattle.std.proofs.lemmas.Bool.{leb-true, le-leb, lt-leb, lt-ltb, le-ltb, eq-eqb, cases_lt, cases_order, or_left, or_right, or_parts}
 use Rattle.grid_types.proofs.Numbers.{both, first, second}
+use Rattle.grid_types.specs.Keys.{top}
 use Rattle.grid_model.specs.Lists.{is_among}
-use Rattle.grid_model.specs.Scales.{ascends_from, is_scale, interval, low, high, lows, highs, is_drawn, refined, top}
+use Rattle.grid_model.specs.Scales.{ascends_from, is_scale, interval, low, high, lows, highs, is_drawn, refined}
 use Rattle.grid_model.specs.ScaleLaws.{PartsNumbers}
 
 -- the first boundary is at least the number from which the boundaries ascend

@@ -24,7 +24,7 @@ use Rattle.grid_model.specs.Listings.{rows}
 use Rattle.grid_model.specs.Layouts.{BucketBox, Layout, box, holder, unused, records_inside, IsSound}
 use Rattle.grid_model.specs.Cuts.{cut}
 use Rattle.grid_model.specs.Neighbours.{partners}
-use Rattle.grid_model.specs.Notes.{updated_key, keys_with, cut_note, put_note, put_note_at, merges, merges_at, after_note, after_note_at, joined, IsLawfulNote}
+use Rattle.grid_model.specs.Notes.{updated_key, keys_with, cut_note, put_note, put_note_at, merges, merges_at, after_note_at, joined, IsLawfulNote}
 use Rattle.grid_model.specs.LayoutLaws.{StandsOver, Fits, KeepsSound, IsLeastUnused, MergesTwo, IsMerge}
 use Rattle.grid_model.specs.LoneLaws.{IsState, IsRequest}
 use Rattle.grid_model.specs.Lone.{record_of, State, free, root, opened, root_if, how_many, renewed, dropped, need, published, claimed, queued, change, change_claimed, done, refused, answered, remove_note, remove_found, put_noted, update_at, update_held, updated, lone}

@@ -6,7 +6,8 @@ use Rattle.grid_types.specs.declared.sizes.TheConstants.{WORDS_ON_PAGE}
 use Rattle.grid_types.specs.declared.cell_box.CellBox.{CellBox}
 use Rattle.grid_types.specs.declared.region.Region.{Region}
 use Rattle.grid_types.specs.Regions.{Within}
-use Rattle.grid_model.specs.Lists.{below, from_to, zip_with, product, choices}
+use Rattle.grid_types.specs.Lists.{zip_with}
+use Rattle.grid_model.specs.Lists.{below, from_to, product, choices}
 use Rattle.grid_model.specs.Scales.{interval, intervals, low}
 
 -- how many intervals each attribute has

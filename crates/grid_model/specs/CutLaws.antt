@@ -2,10 +2,11 @@
 use Rattle.std.specs.Prelude.{◌≡◌, ◌↔◌, ◌<◌, ℕ, List, [], true, false, map, slice_index, slice_get, length, Some, None, Contains, IsTrue}
 use Rattle.grid_types.specs.declared.shape.Shape.{Shape}
 use Rattle.grid_types.specs.declared.layout_change.Cut.{Cut}
+use Rattle.grid_types.specs.Regions.{is_within}
 use Rattle.grid_model.specs.Lists.{least, ranks_below, is_among}
 use Rattle.grid_model.specs.Scales.{scale_of}
 use Rattle.grid_model.specs.Layouts.{BucketBox}
-use Rattle.grid_model.specs.Cuts.{cut, is_within, divides, may_grow, rank, cycle}
+use Rattle.grid_model.specs.Cuts.{cut, divides, may_grow, rank, cycle}
 
 -- an item stands at an index, and each one in front of it ranks above it
 pub record IsFirstAt {X : Type 0} (rank : X → List ℕ) (xs : List X) (x : X) : Type 0 where

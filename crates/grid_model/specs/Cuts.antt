@@ -4,6 +4,7 @@ use Rattle.std.specs.Option.{option_map}
 use Rattle.grid_types.specs.declared.region.Region.{Region}
 use Rattle.grid_types.specs.declared.shape.Shape.{Shape}
 use Rattle.grid_types.specs.declared.layout_change.Cut.{Cut}
+use Rattle.grid_types.specs.Regions.{is_within}
 use Rattle.grid_model.specs.Lists.{below, least, or_else, first_some, product}
 use Rattle.grid_model.specs.Scales.{scale_of}
 use Rattle.grid_model.specs.Cells.{dims}
@@ -28,10 +29,6 @@ apart_by n m = (n - m) + (m - n)
 -- by how many keys one part is longer
 abbrev pub difference : List (List ℕ) → ℕ → ℕ → ℕ
 difference keys a v = apart_by (length (left_part keys a v)) (length (right_part keys a v))
-
--- a boundary lies within a region where the numbers on both sides of it are the region's
-abbrev pub is_within : {K : ℕ} → Region K → ℕ → ℕ → Bool
-is_within r a v = nat_lt (slice_index r.lo a) v && nat_le v (slice_index r.hi a)
 
 -- the existing boundaries of an attribute that lie within the region and divide the keys
 abbrev pub existing_in : {K : ℕ} → List (List ℕ) → Region K → List (List ℕ) → ℕ → List ℕ

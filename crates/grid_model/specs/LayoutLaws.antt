@@ -6,14 +6,12 @@ use Rattle.grid_types.specs.declared.layout_change.Cut.{Cut}
 use Rattle.grid_types.specs.declared.layout_change.LayoutChange.{LayoutChange}
 use Rattle.grid_types.specs.declared.layout_change.LayoutChange.TheVariants as note
 use Rattle.grid_types.specs.declared.region.Region.{Region}
-use Rattle.grid_types.specs.Regions.{contains, IsRegion}
+use Rattle.grid_types.specs.Regions.{contains, IsRegion, is_within, make_a_box, hull}
 use Rattle.grid_types.specs.Shapes.{is_shape}
 use Rattle.grid_model.specs.Cells.{parts}
 use Rattle.grid_model.specs.Tables.{Table, IsTable, HasKeys, HasValues, effect}
 use Rattle.grid_model.specs.Layouts.{BucketBox, Layout, box, holder, unused, new_layout, IsSound}
 use Rattle.grid_model.specs.Lawful.{IsUpdateOf}
-use Rattle.grid_model.specs.Cuts.{is_within}
-use Rattle.grid_model.specs.Neighbours.{make_a_box, hull}
 use Rattle.grid_model.specs.Notes.{updated_key, left_of, right_of, after_note, IsLawfulNote, together}
 
 -- a layout and a table of a file of that shape: the table is one of its attributes, and the layout is sound for the table

@@ -7,11 +7,11 @@ use Rattle.std.specs.FinMap.Entries.{find, where_key, is_sorted}
 use Rattle.grid_types.specs.declared.sizes.TheConstants.{WORDS_ON_PAGE}
 use Rattle.grid_types.specs.declared.region.Region.{Region}
 use Rattle.grid_types.specs.declared.shape.Shape.{Shape}
-use Rattle.grid_types.specs.Keys.{key_cmp, IsKey}
+use Rattle.grid_types.specs.Keys.{key_cmp, IsKey, top}
 use Rattle.grid_types.specs.Regions.{contains, IsRegion}
 use Rattle.grid_model.specs.Lists.{below}
 use Rattle.grid_model.specs.Tables.{Table}
-use Rattle.grid_model.specs.Scales.{scale_of, is_scale, is_drawn, top}
+use Rattle.grid_model.specs.Scales.{scale_of, is_scale, is_drawn}
 use Rattle.grid_model.specs.Cells.{cells, all_cells, corner}
 
 -- a bucket's box: the region of its keys, and its turn, the attribute that is tried first when it is cut at a new boundary

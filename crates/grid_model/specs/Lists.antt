@@ -20,12 +20,6 @@ is_among ns n = list_any (λ m. m == n) ns
 abbrev pub AreDistinct : List ℕ → Type 0
 AreDistinct ns = (n : ℕ) → length (filter (λ m. m == n) ns) ≤ 1
 
--- each item with the other at its place, by f
-abbrev pub zip_with : {X Y Z : Type 0} → (X → Y → Z) → List X → List Y → List Z
-zip_with f [] ys = []
-zip_with f (x ∷ xs) [] = []
-zip_with f (x ∷ xs) (y ∷ ys) = f x y ∷ zip_with f xs ys
-
 -- the product of the numbers
 abbrev pub product : List ℕ → ℕ
 product [] = 1

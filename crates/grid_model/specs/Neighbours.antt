@@ -1,12 +1,11 @@
 -- The neighbours of a box, and those that it may be joined with.
-use Rattle.std.specs.Prelude.{ℕ, ◌+◌, ◌-◌, ◌*◌, ◌/◌, List, [], ◌∷◌, Bool, ◌&&◌, ◌||◌, min, max, length, nat_lt, nat_le, ◌==◌, if◌then◌else◌, slice_index, slice_set, flat_map, filter_map, Option, Some, None}
+use Rattle.std.specs.Prelude.{ℕ, ◌+◌, ◌-◌, ◌*◌, ◌/◌, List, [], ◌∷◌, Bool, ◌&&◌, length, nat_lt, nat_le, if◌then◌else◌, slice_index, slice_set, flat_map, filter_map, Option, Some, None}
 use Rattle.std.specs.Option.{option_and_then}
-use Rattle.std.specs.List.{list_any}
-use lib.Pointwise.{pointwise}
 use Rattle.grid_types.specs.declared.region.Region.{Region}
 use Rattle.grid_types.specs.declared.shape.Shape.{Shape}
-use Rattle.grid_model.specs.Lists.{below, zip_with}
-use Rattle.grid_model.specs.Scales.{top}
+use Rattle.grid_types.specs.Keys.{top}
+use Rattle.grid_types.specs.Regions.{make_a_box}
+use Rattle.grid_model.specs.Lists.{below}
 use Rattle.grid_model.specs.Tables.{Table}
 use Rattle.grid_model.specs.Layouts.{BucketBox, Layout, holder, records_inside}
 
@@ -31,26 +30,6 @@ probe r (Above a) = if nat_lt (slice_index r.hi a) top then Some (slice_set r.lo
 -- the neighbour on a side: the box that has the moved corner, with its number
 abbrev pub neighbour : {K : ℕ} → Layout K → Region K → Direction → Option (ℕ × BucketBox K)
 neighbour L r side = option_and_then (holder L) (probe r side)
-
--- two lists are the same but at a place
-abbrev pub same_but : ℕ → List ℕ → List ℕ → Bool
-same_but a xs ys = pointwise ◌==◌ (slice_set xs a 0) (slice_set ys a 0)
-
--- one of two intervals begins where the other ends
-abbrev pub one_follows : ℕ → ℕ → ℕ → ℕ → Bool
-one_follows lo hi lo2 hi2 = (hi + 1 == lo2) || (hi2 + 1 == lo)
-
--- two regions touch along an attribute: they are the same in all others, and in this one the one begins where the other ends
-abbrev pub touch_along : {K : ℕ} → Region K → Region K → ℕ → Bool
-touch_along r s a = same_but a r.lo s.lo && (same_but a r.hi s.hi && one_follows (slice_index r.lo a) (slice_index r.hi a) (slice_index s.lo a) (slice_index s.hi a))
-
--- two regions together are a box
-abbrev pub make_a_box : {K : ℕ} → Region K → Region K → Bool
-make_a_box r s = list_any (touch_along r s) (below (length r.lo))
-
--- the least region that has the keys of both
-abbrev pub hull : {K : ℕ} → Region K → Region K → Region K
-hull r s = record { lo = zip_with min r.lo s.lo; hi = zip_with max r.hi s.hi }
 
 -- two regions hold at most seven tenths of a bucket's records together
 abbrev pub fit_together : {K : ℕ} → Shape → Table → Region K → Region K → Bool

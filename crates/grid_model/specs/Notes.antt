@@ -1,5 +1,5 @@
 -- What an update does to the layout: nothing, a cut, or a merge.
-use Rattle.std.specs.Prelude.{◌≡◌, ◌⊎◌, ℕ, ◌+◌, ◌-◌, ◌%◌, List, [], ◌||◌, not, map, min, max, length, nat_lt, ◌==◌, if◌then◌else◌, slice_set, Option, Some, is_some, IsSome, unwrap_or, Contains}
+use Rattle.std.specs.Prelude.{◌≡◌, ◌⊎◌, ℕ, ◌+◌, ◌%◌, List, [], ◌||◌, not, map, min, max, length, nat_lt, ◌==◌, if◌then◌else◌, slice_set, Option, Some, is_some, IsSome, unwrap_or, Contains}
 use Rattle.std.specs.Option.{option_map, option_and_then, option_map_or}
 use Rattle.std.specs.Ordering.{nat_cmp}
 use Rattle.std.specs.FinMap.Entries.{put, where_key}
@@ -10,11 +10,12 @@ use Rattle.grid_types.specs.declared.region.Region.{Region}
 use Rattle.grid_types.specs.declared.layout_change.Cut.{Cut}
 use Rattle.grid_types.specs.declared.layout_change.LayoutChange.{LayoutChange}
 use Rattle.grid_types.specs.declared.layout_change.LayoutChange.TheVariants as note
+use Rattle.grid_types.specs.Regions.{part_below, part_from, hull}
 use Rattle.grid_model.specs.Scales.{scale_of, refined}
 use Rattle.grid_model.specs.Tables.{Table, get, without, with_data}
 use Rattle.grid_model.specs.Layouts.{BucketBox, Layout, box, holder, records_inside, unused}
 use Rattle.grid_model.specs.Cuts.{cut}
-use Rattle.grid_model.specs.Neighbours.{hull, partners}
+use Rattle.grid_model.specs.Neighbours.{partners}
 
 -- the key that an update is about
 abbrev pub updated_key : {K : ℕ} → Update K → List ℕ
@@ -58,11 +59,11 @@ next_turn K c = (c.attribute + 1) % K
 
 -- the left part of a box ends below the boundary
 abbrev pub left_of : {K : ℕ} → BucketBox K → Cut → BucketBox K
-left_of {K} b c = record { region = record { lo = b.region.lo; hi = slice_set b.region.hi c.attribute (c.value - 1) }; turn = next_turn K c }
+left_of {K} b c = record { region = part_below b.region c.attribute c.value; turn = next_turn K c }
 
 -- the right part of a box begins at the boundary
 abbrev pub right_of : {K : ℕ} → BucketBox K → Cut → BucketBox K
-right_of {K} b c = record { region = record { lo = slice_set b.region.lo c.attribute c.value; hi = b.region.hi }; turn = next_turn K c }
+right_of {K} b c = record { region = part_from b.region c.attribute c.value; turn = next_turn K c }
 
 -- the scales after a cut: a fresh boundary is added to its scale
 abbrev pub scales_after : List (List ℕ) → Cut → List (List ℕ)

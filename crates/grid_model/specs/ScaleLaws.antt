@@ -2,8 +2,9 @@
 use Rattle.std.specs.Prelude.{◌≡◌, ◌<◌, ◌≤◌, ◌+◌, ◌↔◌, ◌||◌, ◌==◌, ℕ, List, false, length, slice_get, slice_index, Some, Contains, IsTrue}
 use Rattle.grid_types.specs.declared.region.Region.{Region}
 use Rattle.grid_types.specs.Regions.{contains}
+use Rattle.grid_types.specs.Keys.{top}
 use Rattle.grid_model.specs.Lists.{is_among}
-use Rattle.grid_model.specs.Scales.{scale_of, top, is_scale, interval, low, high, is_drawn, refined, refined_at}
+use Rattle.grid_model.specs.Scales.{scale_of, is_scale, interval, low, high, is_drawn, refined, refined_at}
 use Rattle.grid_model.specs.Cells.{dims, cells, cell_of, cell_index, all_cells, cells_of, image_of}
 
 -- a scale parts the numbers into intervals: an interval's bounds contain a number exactly where it is the number's interval; a fresh boundary makes a scale again, which cuts one interval in two and keeps all ends

@@ -1,10 +1,7 @@
 -- A linear scale is the ascending list of its boundaries, which part the numbers of an attribute into intervals.
 use Rattle.std.specs.Prelude.{ℕ, pred, ◌+◌, List, [], ◌∷◌, ◌++◌, Bool, true, ◌&&◌, map, length, nat_lt, nat_le, slice_index, slice_index_or, slice_set, filter}
+use Rattle.grid_types.specs.Keys.{top}
 use Rattle.grid_model.specs.Lists.{is_among}
-
--- the greatest number of an attribute
-abbrev pub top : ℕ
-top = 18446744073709551615
 
 -- the scale of an attribute
 abbrev pub scale_of : List (List ℕ) → ℕ → List ℕ

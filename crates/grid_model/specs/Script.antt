@@ -10,8 +10,8 @@ use Rattle.grid_types.specs.declared.query.Query.{Query}
 use Rattle.grid_types.specs.declared.request.Line.{Line}
 use Rattle.grid_types.specs.declared.request.Request.{Request}
 use Rattle.grid_types.specs.declared.request.Request.TheVariants as ask
+use Rattle.grid_types.specs.Keys.{top}
 use Rattle.grid_model.specs.Lists.{first_some}
-use Rattle.grid_model.specs.Scales.{top}
 
 -- the first line with a byte in front of it
 abbrev pub onto_first : ℕ → List (List ℕ) → List (List ℕ)

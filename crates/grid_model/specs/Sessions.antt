@@ -12,7 +12,8 @@ use Rattle.grid_types.specs.declared.request.Request.{Request}
 use Rattle.grid_types.specs.declared.request.Request.TheVariants as ask
 use Rattle.grid_types.specs.declared.request.Reply.{Reply}
 use Rattle.grid_types.specs.declared.request.Reply.TheVariants as told
-use Rattle.grid_model.specs.Lists.{from_to, zip_with}
+use Rattle.grid_types.specs.Lists.{zip_with}
+use Rattle.grid_model.specs.Lists.{from_to}
 use Rattle.grid_model.specs.Tables.{Table, IsTableOf}
 use Rattle.grid_model.specs.Histories.{History}
 use Rattle.grid_model.specs.Answers.{IsAnswer, IsRefusal}

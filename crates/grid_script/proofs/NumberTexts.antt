@@ -6,8 +6,8 @@ use Rattle.std.proofs.lemmas.Fmt.{digits_value-decimal}
 use Rattle.std.proofs.lemmas.Str.Parse.{IsNumeralModel, numerals_by_fold, tells_all_ascii_digits}
 use lib.Pointwise.{bytes_decides}
 use Rattle.grid_types.proofs.Numbers.{first, second, both}
+use Rattle.grid_types.specs.Keys.{top}
 use Rattle.grid_model.specs.Script.{is_text, value, parsed_number}
-use Rattle.grid_model.specs.Scales.{top}
 use Rattle.std.specs.Prelude.{Result, Ok, Err}
 
 abbrev value_after : ℕ → List ℕ → ℕ

@@ -9,13 +9,13 @@ use Rattle.grid_types.specs.declared.layout_change.LayoutChange.TheVariants as n
 use Rattle.grid_types.specs.declared.refusal.Refusal.TheVariants.{Full, NoCut}
 use Rattle.grid_types.specs.declared.request.Request.TheVariants as ask
 use Rattle.grid_types.specs.Keys.{IsKey}
-use Rattle.grid_types.specs.Regions.{contains}
+use Rattle.grid_types.specs.Regions.{contains, is_within}
 use Rattle.grid_model.specs.Lists.{below, least, first_some, or_else}
 use Rattle.grid_model.specs.Scales.{scale_of}
 use Rattle.grid_model.specs.Cells.{cells, parts}
 use Rattle.grid_model.specs.Tables.{Table, get, with_data, effect, pair_of, pairs_of}
 use Rattle.grid_model.specs.Layouts.{BucketBox, Layout, holder, records_inside, whole, new_layout}
-use Rattle.grid_model.specs.Cuts.{cut, candidates, candidates_in, best_existing, best_value, is_within, divides, rank, cells_with, may_grow, old_cut, new_cut, refinement, refinements, cycle}
+use Rattle.grid_model.specs.Cuts.{cut, candidates, candidates_in, best_existing, best_value, divides, rank, cells_with, may_grow, old_cut, new_cut, refinement, refinements, cycle}
 use Rattle.grid_model.specs.Notes.{keys_with, cut_note, put_note, put_note_at}
 use Rattle.grid_model.specs.Lone.{State, lone, updated, update_held, put_noted, change, change_claimed, claimed, queued, published, done, refused, need, renewed, dropped, outside, among, free, root, boundaries, how_many}
 use Rattle.grid_model.proofs.NewLayout.{one_cell, whole_has}

@@ -3,6 +3,12 @@ use Rattle.std.proofs.Common.{◌≡◌, ◌<◌, ℕ, zero, suc, Bool, true, fa
 use lib.Pointwise.{pointwise}
 use Rattle.std.specs.List.{list_all}
 
+-- an item that is there is the same whatever stands for one that is not
+pub any-default : {A : Type 0} (xs : List A) (i : ℕ) (d e : A) → i < length xs → get_or xs i d ≡ get_or xs i e
+any-default [] i d e l = absurd (omega (arith, l))
+any-default (x ∷ xs) zero d e l = refl
+any-default (x ∷ xs) (suc i) d e l = any-default xs i d e (omega (arith, l))
+
 -- each pair passes
 pub each-pair : {A B : Type 0} (E : A → B → Bool) (xs : List A) (ys : List B) → length xs ≡ length ys
     → ((i : ℕ) (x : A) (y : B) → i < length xs → E (get_or xs i x) (get_or ys i y) ≡ true) → pointwise E xs ys ≡ true

@@ -4,3 +4,6 @@ pub mod Places
 pub mod PageNumbers
 mod Vectors
 pub mod HalvesLemmas
+pub mod Zipped
+mod Meeting
+mod Adjoining

@@ -1,9 +1,19 @@
 -- Tests of two lists of numbers, and of the keys of a region.
-use Rattle.std.proofs.Common.{◌≡◌, ◌<◌, ◌≤◌, ◌↔◌, ℕ, zero, suc, Bool, true, false, ◌&&◌, List, [], ◌∷◌, length, slice_index, nat_le, IsTrue, refl, ap, sym, subst, arith, le-leb, leb-true, true≢false}
-use Rattle.std.proofs.lemmas.Bool.{lt-leb}
+use Rattle.std.proofs.Common.{◌≡◌, ◌<◌, ◌≤◌, ◌↔◌, ◌+◌, ◌⊎◌, inl, inr, ℕ, zero, suc, Bool, true, false, ◌&&◌, List, [], ◌∷◌, length, slice_index, nat_le, IsTrue, refl, ap, sym, subst, arith, le-leb, leb-true, true≢false}
+use Rattle.std.proofs.lemmas.Bool.{lt-leb, cases_lt}
 use lib.Pointwise.{pointwise}
 use Rattle.grid_types.specs.Regions.{Within}
 use Rattle.grid_types.proofs.Each.{fails-last}
+
+-- what holds of each number below another one, and of that one, holds of each number below the next
+pub one-more : (P : ℕ → Type 0) (a : ℕ) → ((k : ℕ) → k < a → P k) → P a → (k : ℕ) → k < a + 1 → P k
+one-more P a below here k l = by (cases_lt k a)
+  where
+    by : (k < a) ⊎ (a ≤ k) → P k
+    by (inl h) = below k h
+    by (inr h) =
+        let same : a ≡ k = omega (arith, h, l) in
+        subst P same here
 
 pub both : (a b : Bool) → a ≡ true → b ≡ true → (a && b) ≡ true
 both true b p q = q

@@ -2,7 +2,7 @@
 use Rattle.std.proofs.Common.{◌≡◌, ◌≢◌, ◌<◌, ◌≤◌, ◌+◌, ◌-◌, ◌*◌, ℕ, zero, suc, cond, nat_lt, sym, ap, ◌∙◌, arith, lt-ltb, le-ltb}
 use Rattle.grid_types.specs.declared.shape.Shape.{Shape}
 use Rattle.grid_types.specs.Shapes.{area_pages, table_page, gate_page, slot_page, data_page}
-use Rattle.grid_types.specs.FilePages.{FilePage, HeaderPage, AreaPage, GatePage, SlotPage, DataPage, page_number, HasPage, AreApart}
+use Rattle.grid_types.specs.FilePages.{FilePage, HeaderPage, AreaPage, GatePage, SlotPage, DataPage, page_number, HasPage, PagesAreApart}
 use Rattle.grid_types.proofs.Places.{table-page, gate-page, slot-page-is, data-page-is}
 
 before : (n m : ℕ) (x y : FilePage) → n < m → cond (nat_lt n m) x y ≡ x
@@ -91,7 +91,7 @@ module _ (s : Shape) where
       ∙ ap DataPage (omega (arith, at))
 
 -- pages with one number are one page
-pub are-apart : AreApart
+pub are-apart : PagesAreApart
 are-apart s p q x y same = sym (found s p x) ∙ ap (page_at s) same ∙ found s q y
 
 -- pages that are for different things have different numbers

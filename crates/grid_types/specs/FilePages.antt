@@ -28,5 +28,5 @@ HasPage s (SlotPage half slot) = (half < 2) × (slot < s.slots)
 HasPage s (DataPage index) = index < s.pages
 
 -- pages that are for different things have different numbers
-abbrev pub AreApart : Type 0
-AreApart = (s : Shape) (p q : FilePage) → HasPage s p → HasPage s q → page_number s p ≡ page_number s q → p ≡ q
+abbrev pub PagesAreApart : Type 0
+PagesAreApart = (s : Shape) (p q : FilePage) → HasPage s p → HasPage s q → page_number s p ≡ page_number s q → p ≡ q

@@ -6,6 +6,10 @@ use Rattle.std.specs.declared.cmp.Ordering.{Ordering}
 use Rattle.std.specs.declared.cmp.Ordering.TheVariants.{Equal}
 use Rattle.std.specs.Cmp.Lexicographic.{slice_cmp}
 
+-- the greatest number of an attribute
+abbrev pub top : ℕ
+top = 18446744073709551615
+
 -- keys are compared number by number, the first attribute first
 abbrev pub key_cmp : List ℕ → List ℕ → Ordering
 key_cmp = slice_cmp nat_cmp

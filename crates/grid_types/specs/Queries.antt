@@ -4,6 +4,7 @@ use Rattle.std.specs.List.{list_all}
 use lib.Pointwise.{pointwise}
 use Rattle.grid_types.specs.declared.query.Side.{Side}
 use Rattle.grid_types.specs.declared.query.Side.TheVariants.{Any, Exactly, Between}
+use Rattle.grid_types.specs.Keys.{top}
 
 -- whether a side asks for a number
 abbrev pub admits : Side → ℕ → Bool
@@ -14,6 +15,18 @@ admits (Between lo hi) n = nat_le lo n && nat_le n hi
 -- a key matches where each side asks for its attribute's number
 unfoldable pub matches : List Side → List ℕ → Bool
 matches sides key = pointwise admits sides key
+
+-- the least number that a side asks for
+abbrev pub begin_of : Side → ℕ
+begin_of Any = 0
+begin_of (Exactly n) = n
+begin_of (Between lo hi) = lo
+
+-- the greatest number that a side asks for
+abbrev pub end_of : Side → ℕ
+end_of Any = top
+end_of (Exactly n) = n
+end_of (Between lo hi) = hi
 
 -- a side is straight where it does not end below its begin
 abbrev pub is_straight : Side → Bool

@@ -1,6 +1,6 @@
 //! Where the pages of a file are.
 ghost use Rattle.std.specs.Prelude.{◌≡◌, ◌<◌, ◌≤◌, ◌+◌, ◌*◌, ◌↔◌, IsTrue, IsSome, IfSome};
-ghost use Rattle.grid_types.specs.FilePages.{AreApart};
+ghost use Rattle.grid_types.specs.FilePages.{PagesAreApart};
 ghost use Rattle.grid_types.specs.Shapes.{is_shape, area_pages, file_pages, table_page, gate_page, slot_page, data_page};
 ghost use Rattle.grid_types.specs.Halves.{half_number};
 
@@ -79,5 +79,5 @@ impl Geometry {
 
 /// The law of a file's pages: pages that are for different things have different numbers.
 pub fn page_number_law()
-    ensures { AreApart }
+    ensures { PagesAreApart }
 {}

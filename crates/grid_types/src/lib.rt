@@ -18,6 +18,7 @@ mod request;
 mod rows;
 mod shape;
 mod sizes;
+mod touching;
 mod update;
 
 pub use answer::Answer;

@@ -1,6 +1,6 @@
 //! What a query asks of a key.
 ghost use Rattle.std.specs.Prelude.{◌≡◌, ◌↔◌, IsTrue};
-ghost use Rattle.grid_types.specs.Queries.{admits, matches, is_straight, is_lawful};
+ghost use Rattle.grid_types.specs.Queries.{admits, begin_of, end_of, matches, is_straight, is_lawful};
 
 use crate::Key;
 
@@ -30,6 +30,28 @@ impl Side {
             Side::Any => true,
             Side::Exactly(wanted) => number == wanted,
             Side::Between(lo, hi) => lo <= number && number <= hi,
+        }
+    }
+
+    /// The least number that the side asks for.
+    pub fn begin(&self) -> u64
+        ensures { result ≡ begin_of self.now }
+    {
+        match *self {
+            Side::Any => 0,
+            Side::Exactly(n) => n,
+            Side::Between(lo, _) => lo,
+        }
+    }
+
+    /// The greatest number that the side asks for.
+    pub fn end(&self) -> u64
+        ensures { result ≡ end_of self.now }
+    {
+        match *self {
+            Side::Any => u64::MAX,
+            Side::Exactly(n) => n,
+            Side::Between(_, hi) => hi,
         }
     }
 

@@ -1,10 +1,11 @@
 //! Regions of keys.
-ghost use Rattle.std.specs.Prelude.{◌≡◌, ◌<◌, ◌≤◌, ◌^◌, ◌↔◌, IsTrue, List, ℕ, length, slice_index, replicate, nat_le, ◌&&◌};
-ghost use Rattle.grid_types.specs.Keys.{IsKey};
-ghost use Rattle.grid_types.specs.Regions.{Within, contains};
+ghost use Rattle.std.specs.Prelude.{◌≡◌, ◌<◌, ◌≤◌, ◌^◌, ◌↔◌, IsTrue, List, ℕ, length, map, slice_index, replicate, nat_le, ◌&&◌};
+ghost use Rattle.grid_types.specs.Keys.{IsKey, top};
+ghost use Rattle.grid_types.specs.Queries.{begin_of, end_of, is_lawful};
+ghost use Rattle.grid_types.specs.Regions.{Within, contains, IsRegion, is_within, part_below, part_from, meets, HaveKeyInCommon};
 ghost use lib.Pointwise.{pointwise};
 
-use crate::Key;
+use crate::{Key, Query, Side};
 
 /// The keys between two corners, both included in each attribute.
 #[derive(Clone, Copy, Debug, PartialEq, Eq)]
@@ -33,11 +34,35 @@ fn all_between<const K: usize>(lo: &[u64; K], at: &[u64; K], hi: &[u64; K]) -> b
     at_most(lo, at) && at_most(at, hi)
 }
 
+/// Whether each number is at most the greatest that the side at its place asks for.
+fn all_before_ends<const K: usize>(numbers: &[u64; K], sides: &[Side; K]) -> bool
+    ensures { result ≡ pointwise nat_le numbers.now (map end_of sides.now) }
+{
+    for a in 0..K {
+        if sides[a].end() < numbers[a] {
+            return false;
+        }
+    }
+    true
+}
+
+/// Whether each number is at least the least that the side at its place asks for.
+fn all_behind_begins<const K: usize>(sides: &[Side; K], numbers: &[u64; K]) -> bool
+    ensures { result ≡ pointwise nat_le (map begin_of sides.now) numbers.now }
+{
+    for a in 0..K {
+        if numbers[a] < sides[a].begin() {
+            return false;
+        }
+    }
+    true
+}
+
 impl<const K: usize> Region<K> {
     /// The region of every key.
     pub fn whole() -> Region<K>
         ensures low { result.lo ≡ replicate K 0 }
-        ensures high { result.hi ≡ replicate K 18446744073709551615 }
+        ensures high { result.hi ≡ replicate K top }
         ensures every { (at : List ℕ) → IsKey K at → Within result.lo result.hi at }
     {
         Region {
@@ -54,5 +79,28 @@ impl<const K: usize> Region<K> {
     {
         let _numbers = key.numbers();
         all_between(&self.lo, &key.numbers, &self.hi)
+    }
+    /// Whether the region has a key that the query asks for.
+    pub fn meets(&self, query: &Query<K>) -> bool
+        ensures value { result ≡ meets self.now query.now.sides }
+        ensures common { IsRegion K self.now
+            → IsTrue (is_lawful query.now.sides)
+            → IsTrue result ↔ HaveKeyInCommon self.now query.now.sides }
+    {
+        all_before_ends(&self.lo, &query.sides) && all_behind_begins(&query.sides, &self.hi)
+    }
+
+    /// The parts of the region on both sides of a boundary that lies within it: the keys below it, and the others.
+    pub fn cut(&self, attribute: u8, value: u64) -> (Region<K>, Region<K>)
+        requires attribute { attribute < K }
+        requires within { IsTrue (is_within self.now attribute value) }
+        ensures below { result.0 ≡ part_below self.now attribute value }
+        ensures from { result.1 ≡ part_from self.now attribute value }
+    {
+        let mut below = *self;
+        let mut from = *self;
+        below.hi[attribute as usize] = value - 1;
+        from.lo[attribute as usize] = value;
+        (below, from)
     }
 }

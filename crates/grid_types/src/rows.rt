@@ -1,5 +1,8 @@
 //! Lists of records.
-ghost use Rattle.std.specs.Prelude.{◌≡◌, ◌++◌, ◌∷◌, [], OnOk, OnErr};
+ghost use Rattle.std.specs.Prelude.{◌≡◌, ◌≤◌, ◌++◌, ◌∷◌, [], OnOk, OnErr};
+ghost use Rattle.std.specs.List.Sorted.{IsPermutation, IsSortedByKey};
+ghost use Rattle.grid_types.specs.declared.sizes.TheConstants.{MOST_ATTRIBUTES};
+ghost use Rattle.grid_types.specs.Keys.{key_cmp};
 
 use crate::Record;
 use std::alloc::{AllocError, Global};
@@ -39,6 +42,15 @@ impl<const K: usize> Rows<K> {
             Ok(()) => Ok(()),
             Err(_) => Err(AllocError),
         }
+    }
+
+    /// Puts the records in the order of their keys, in place.
+    pub fn sort(&mut self)
+        requires few { K ≤ MOST_ATTRIBUTES }
+        ensures sorted { IsSortedByKey (λ r. r.key.numbers) key_cmp self.new }
+        ensures same { IsPermutation self.old self.new }
+    {
+        self.list.sort_unstable();
     }
 
     /// The records of that list.

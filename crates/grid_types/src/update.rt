@@ -2,8 +2,8 @@
 
 use crate::{Data, Key};
 
-/// A key with its data.
-#[derive(Debug, Default, Drop, PartialEq, Eq)]
+/// A key with its data. Records are ordered by their keys; two of one key, which no table has, by their data.
+#[derive(Debug, Default, Drop, PartialEq, Eq, PartialOrd, Ord)]
 pub struct Record<const K: usize> {
     pub key: Key<K>,
     pub value: Data,

@@ -10,14 +10,13 @@ use Rattle.grid_types.specs.declared.shape.Shape.{Shape}
 use Rattle.grid_types.specs.declared.update.Update.{Update}
 use Rattle.grid_types.specs.declared.update.Update.TheVariants.{Put, Remove}
 use Rattle.grid_types.specs.Keys.{IsKey}
-use Rattle.grid_types.specs.Regions.{contains, IsRegion}
+use Rattle.grid_types.specs.Regions.{contains, IsRegion, is_within}
 use Rattle.grid_types.proofs.Numbers.{first}
 use Rattle.grid_model.specs.Lists.{below, is_among}
 use Rattle.grid_model.specs.Scales.{scale_of, refined}
 use Rattle.grid_model.specs.Cells.{parts, parts_holding}
 use Rattle.grid_model.specs.Tables.{Table}
 use Rattle.grid_model.specs.Layouts.{BucketBox, Layout, box, holder, IsSound, number_at, directory_part}
-use Rattle.grid_model.specs.Cuts.{is_within}
 use Rattle.grid_model.specs.Notes.{updated_key, put_note, IsLawfulNote, right_of, scales_after, split}
 use Rattle.grid_model.specs.LayoutLaws.{StandsOver}
 use Rattle.grid_model.specs.Spellings.{directory_spelling}

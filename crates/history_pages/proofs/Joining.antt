@@ -9,13 +9,12 @@ use Rattle.grid_types.specs.declared.shape.Shape.{Shape}
 use Rattle.grid_types.specs.declared.update.Update.{Update}
 use Rattle.grid_types.specs.declared.update.Update.TheVariants.{Put, Remove}
 use Rattle.grid_types.specs.Keys.{IsKey}
-use Rattle.grid_types.specs.Regions.{contains}
+use Rattle.grid_types.specs.Regions.{contains, make_a_box}
 use Rattle.grid_model.specs.Lists.{is_among}
 use Rattle.grid_model.specs.Cells.{parts_holding}
 use Rattle.grid_model.specs.Tables.{Table, get, effect}
 use Rattle.grid_model.specs.Layouts.{BucketBox, Layout, box, holder, IsSound, number_at}
 use Rattle.grid_model.specs.Lawful.{IsUpdateOf}
-use Rattle.grid_model.specs.Neighbours.{make_a_box}
 use Rattle.grid_model.specs.Notes.{updated_key, merges, after_note_at, IsLawfulNote, joined, together}
 use Rattle.grid_model.specs.LayoutLaws.{StandsOver, IsMerge}
 use Rattle.grid_model.proofs.Boxes.{one-value, one-box, some-not-none}

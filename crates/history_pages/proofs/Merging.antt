@@ -8,9 +8,10 @@ use Rattle.grid_types.specs.declared.layout_change.LayoutChange.TheVariants as n
 use Rattle.grid_types.specs.declared.region.Region.{Region}
 use Rattle.grid_types.specs.declared.shape.Shape.{Shape}
 use Rattle.grid_types.specs.declared.update.Update.TheVariants.{Remove}
+use Rattle.grid_types.specs.Regions.{make_a_box}
 use Rattle.grid_model.specs.Tables.{Table, IsTable, without, effect}
 use Rattle.grid_model.specs.Layouts.{BucketBox, Layout, box, holder, records_inside}
-use Rattle.grid_model.specs.Neighbours.{Direction, directions, probe, neighbour, joins, if_joins, can_join, make_a_box, partners}
+use Rattle.grid_model.specs.Neighbours.{Direction, directions, probe, neighbour, joins, if_joins, can_join, partners}
 use Rattle.grid_model.specs.Notes.{merges, merges_at}
 use Rattle.grid_model.proofs.Boxes.{one-value, one-box, some-not-none}
 use Rattle.grid_model.proofs.Holders.{holder-box}

@@ -3,12 +3,13 @@ use Rattle.std.proofs.Common.{◌≡◌, ◌<◌, ◌≤◌, ◌^◌, ◌↔◌,
 use Rattle.std.proofs.lemmas.Bool.{eq-eqb, eqb-true}
 use Rattle.grid_types.specs.declared.query.Side.{Side}
 use Rattle.grid_types.specs.declared.query.Side.TheVariants.{Any, Exactly, Between}
-use Rattle.grid_types.specs.Queries.{admits, is_straight}
+use Rattle.grid_types.specs.Queries.{admits, is_straight, begin_of, end_of}
 use Rattle.grid_types.proofs.Numbers.{both, first, second}
-use Rattle.grid_model.specs.Scales.{is_scale, interval, low, high, top}
+use Rattle.grid_types.specs.Keys.{top}
+use Rattle.grid_model.specs.Scales.{is_scale, interval, low, high}
 use Rattle.grid_model.proofs.ScaleLaws.{interval-grows, has-bounds}
 use Rattle.grid_model.proofs.Bounds.{high-top, low-high, low-reached, high-kept}
-use Rattle.linear_scales.specs.Sides.{begin_of, end_of, Meets}
+use Rattle.linear_scales.specs.Sides.{Meets}
 
 asks : (side : Side) (n : ℕ) → begin_of side ≤ n → n ≤ end_of side → admits side n ≡ true
 asks Any n p q = refl

@@ -8,7 +8,8 @@ use Rattle.grid_types.specs.declared.query.Side.TheVariants.{Any}
 use Rattle.grid_types.specs.Queries.{admits, matches}
 use Rattle.grid_types.specs.Regions.{Within}
 use Rattle.grid_types.proofs.Numbers.{both, first, second}
-use Rattle.grid_model.specs.Scales.{is_scale, intervals, interval, top}
+use Rattle.grid_types.specs.Keys.{top}
+use Rattle.grid_model.specs.Scales.{is_scale, intervals, interval}
 use Rattle.grid_model.specs.Cells.{dims, cell_of, InCellBox}
 use Rattle.grid_model.specs.ScaleLaws.{IsCell}
 use Rattle.grid_model.proofs.ScaleLaws.{has-bounds, few-intervals}

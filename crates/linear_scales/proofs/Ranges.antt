@@ -3,10 +3,11 @@ use Rattle.std.proofs.Common.{◌≡◌, ◌<◌, ◌≤◌, ◌↔◌, ℕ, Lis
 use Rattle.std.proofs.lemmas.List.{get_or-map, get_or_read, get_or_default, length-map}
 use Rattle.grid_types.specs.declared.query.Side.{Side}
 use Rattle.grid_types.specs.declared.query.Side.TheVariants.{Any}
+use Rattle.grid_types.specs.Queries.{begin_of, end_of}
 use Rattle.grid_model.specs.Scales.{interval}
 use Rattle.grid_model.specs.Cells.{cell_of}
 use Rattle.linear_scales.specs.Limited.{LimitedScale, IsLimited, scales_of}
-use Rattle.linear_scales.specs.Sides.{begin_of, end_of, Meets}
+use Rattle.linear_scales.specs.Sides.{Meets}
 use Rattle.linear_scales.proofs.Filling.{cell-filled}
 
 -- two numbers are the lowest and the highest interval of a scale that meet a side

@@ -2,9 +2,8 @@
 use Rattle.std.specs.Prelude.{◌≡◌, ℕ, List, map, IsTrue}
 use Rattle.grid_types.specs.declared.query.Side.{Side}
 use Rattle.grid_types.specs.Keys.{IsKey}
-use Rattle.grid_types.specs.Queries.{matches}
+use Rattle.grid_types.specs.Queries.{matches, begin_of, end_of}
 use Rattle.grid_model.specs.Cells.{cell_of}
-use Rattle.linear_scales.specs.Sides.{begin_of, end_of}
 
 -- the cell of the least key that is asked for
 abbrev pub lowest_cell : List (List ℕ) → List Side → List ℕ

@@ -1,37 +1,16 @@
 //! The scale of an attribute.
 ghost use Rattle.std.specs.Prelude.{◌≡◌, ◌<◌, ◌≤◌, ◌+◌, ◌↔◌, ℕ, [], length, IsTrue, OnOk, OnErr, IfOk, IfErr};
-ghost use Rattle.grid_types.specs.Queries.{is_straight};
-ghost use Rattle.grid_model.specs.Scales.{top, interval, intervals, low, high, refined};
+ghost use Rattle.grid_types.specs.Queries.{is_straight, begin_of, end_of};
+ghost use Rattle.grid_types.specs.Keys.{top};
+ghost use Rattle.grid_model.specs.Scales.{interval, intervals, low, high, refined};
 ghost use Rattle.linear_scales.specs.Limited.{IsLimited};
 ghost use Rattle.linear_scales.specs.Refusals.{TakesBoundary, IsCause};
-ghost use Rattle.linear_scales.specs.Sides.{begin_of, end_of, Meets};
+ghost use Rattle.linear_scales.specs.Sides.{Meets};
 
 use crate::{ScaleRefused, boundaries};
 use grid_types::Side;
 use std::alloc::{AllocError, Global};
 use std::marker::Model;
-
-/// The least number that a side asks for.
-fn begin(side: &Side) -> u64
-    ensures { result ≡ begin_of side.now }
-{
-    match *side {
-        Side::Any => 0,
-        Side::Exactly(n) => n,
-        Side::Between(lo, _) => lo,
-    }
-}
-
-/// The greatest number that a side asks for.
-fn end(side: &Side) -> u64
-    ensures { result ≡ end_of side.now }
-{
-    match *side {
-        Side::Any => u64::MAX,
-        Side::Exactly(n) => n,
-        Side::Between(_, hi) => hi,
-    }
-}
 
 /// The boundaries of an attribute, and the most that it may have. All memory for them is taken when it is made.
 #[derive(Drop)]
@@ -139,7 +118,7 @@ impl Scale {
             → Meets self.now.boundaries side.now i ↔ ((result.0 ≤ i) × (i ≤ result.1)) }
         ensures lawful { IsLimited self.now }
     {
-        (self.interval(begin(side)), self.interval(end(side)))
+        (self.interval(side.begin()), self.interval(side.end()))
     }
 
     /// Makes this scale the other one. It takes no memory.

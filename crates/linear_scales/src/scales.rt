@@ -1,13 +1,13 @@
 //! A scale for each attribute.
 ghost use Rattle.std.specs.Prelude.{◌≡◌, ◌<◌, ◌≤◌, ◌↔◌, ℕ, List, [], length, replicate, slice_index_or, IsTrue, OnOk, OnErr, IfOk, IfErr};
-ghost use Rattle.grid_types.specs.Queries.{is_straight, is_lawful};
+ghost use Rattle.grid_types.specs.Queries.{is_straight, is_lawful, begin_of, end_of};
 ghost use Rattle.grid_types.specs.declared.query.Side.{Side};
 ghost use Rattle.grid_model.specs.Scales.{scale_of, refined_at};
 ghost use Rattle.grid_model.specs.Cells.{dims, cell_of, InCellBox};
 ghost use Rattle.grid_model.specs.ScaleLaws.{IsCell};
 ghost use Rattle.linear_scales.specs.Limited.{LimitedScale, scales_of, limits_of};
 ghost use Rattle.linear_scales.specs.Refusals.{TakesBoundary, IsCause};
-ghost use Rattle.linear_scales.specs.Sides.{begin_of, end_of, Meets};
+ghost use Rattle.linear_scales.specs.Sides.{Meets};
 ghost use Rattle.linear_scales.specs.Queries.{lowest_cell, highest_cell, MeetsQuery};
 
 use crate::{Scale, ScaleRefused};

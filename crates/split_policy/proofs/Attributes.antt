@@ -3,9 +3,10 @@ use Rattle.std.proofs.Common.{◌≡◌, ◌+◌, ◌&&◌, ℕ, List, [], ◌�
 use Rattle.std.proofs.lemmas.List.{map-id, flat_map_more}
 use Rattle.std.proofs.lemmas.List.FromFn.{map-range_with_len_more}
 use Rattle.grid_types.specs.declared.region.Region.{Region}
+use Rattle.grid_types.specs.Regions.{is_within}
 use Rattle.grid_model.specs.Lists.{below}
 use Rattle.grid_model.specs.Scales.{scale_of}
-use Rattle.grid_model.specs.Cuts.{is_within, divides, candidates_in}
+use Rattle.grid_model.specs.Cuts.{divides, candidates_in}
 use Rattle.split_policy.specs.Candidates.{dividing}
 use Rattle.split_policy.proofs.Inside.{both-kept}
 

@@ -8,12 +8,12 @@ use lib.Pointwise.{pointwise}
 use Rattle.grid_types.specs.declared.shape.Shape.{Shape}
 use Rattle.grid_types.specs.declared.layout_change.Cut.{Cut}
 use Rattle.grid_types.specs.declared.region.Region.{Region}
-use Rattle.grid_types.specs.Regions.{contains}
+use Rattle.grid_types.specs.Regions.{contains, is_within}
 use Rattle.grid_types.proofs.Numbers.{each-at-most}
 use Rattle.grid_model.specs.Lists.{is_among}
 use Rattle.grid_model.specs.Scales.{scale_of}
 use Rattle.grid_model.specs.Layouts.{BucketBox}
-use Rattle.grid_model.specs.Cuts.{cut, is_within, divides, may_grow, left_part, right_part}
+use Rattle.grid_model.specs.Cuts.{cut, divides, may_grow, left_part, right_part}
 use Rattle.grid_model.specs.CutLaws.{IsCandidate, IsValue}
 use Rattle.grid_model.proofs.CutLaws.{cuts-best}
 use Rattle.grid_model.proofs.Members.{contains-first, contains-from-filter, contains-from-map, contains-among}

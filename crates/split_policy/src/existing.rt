@@ -3,7 +3,8 @@ ghost use Rattle.std.specs.Prelude.{◌≡◌, ◌<◌, ◌≤◌, ◌++◌, ◌
 ghost use Rattle.std.specs.List.Sorted.{IsNonDecreasing};
 ghost use Rattle.std.specs.Option.{option_map};
 ghost use Rattle.grid_types.specs.declared.sizes.TheConstants.{MOST_ATTRIBUTES};
-ghost use Rattle.grid_model.specs.Cuts.{is_within, divides, best_existing};
+ghost use Rattle.grid_types.specs.Regions.{is_within};
+ghost use Rattle.grid_model.specs.Cuts.{divides, best_existing};
 ghost use Rattle.linear_scales.specs.Limited.{scales_of};
 ghost use Rattle.split_policy.specs.declared.rule.TheConstants.{MOST_ROWS};
 ghost use Rattle.split_policy.specs.Rows.{keys_of, AreAscending};

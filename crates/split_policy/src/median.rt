@@ -1,9 +1,10 @@
 //! The rule of the median.
 ghost use Rattle.std.specs.Prelude.{◌≡◌, ◌<◌, ◌≤◌, length, not, IsTrue, IfSome};
 ghost use Rattle.grid_types.specs.declared.sizes.TheConstants.{MOST_ATTRIBUTES};
+ghost use Rattle.grid_types.specs.Regions.{is_within};
 ghost use Rattle.grid_model.specs.Lists.{is_among};
 ghost use Rattle.grid_model.specs.Scales.{scale_of};
-ghost use Rattle.grid_model.specs.Cuts.{is_within, divides, may_grow, cut};
+ghost use Rattle.grid_model.specs.Cuts.{divides, may_grow, cut};
 ghost use Rattle.linear_scales.specs.Limited.{scales_of};
 ghost use Rattle.split_policy.specs.declared.rule.TheConstants.{MOST_ROWS};
 ghost use Rattle.split_policy.specs.Rows.{keys_of, LieIn};

@@ -1,6 +1,6 @@
 use Rattle.std.proofs.Common.{◌∙◌, sym, arith}
 use Rattle.std.proofs.lemmas.List.{length-set}
-use Rattle.linear_scales.specs.Sides.{begin_of, end_of}
+use Rattle.grid_types.specs.Queries.{begin_of, end_of}
 use Rattle.grid_model.proofs.Filled.{step-both}
 use Rattle.linear_scales.proofs.Ranges.{AreRanges, range-read, ends-filled}
 use Rattle.linear_scales.proofs.Querying.{query-meets}

@@ -1,9 +1,9 @@
 use Rattle.std.proofs.Common.{◌<◌, ◌≡◌, ◌∙◌, not, sym, IsTrue, arith}
 use Rattle.std.proofs.lemmas.List.Elements.{All-map}
-use Rattle.grid_types.specs.Regions.{contains}
+use Rattle.grid_types.specs.Regions.{contains, is_within}
 use Rattle.grid_model.specs.Lists.{is_among}
 use Rattle.grid_model.specs.Scales.{scale_of}
-use Rattle.grid_model.specs.Cuts.{divides, is_within, may_grow}
+use Rattle.grid_model.specs.Cuts.{divides, may_grow}
 use Rattle.linear_scales.specs.Limited.{scales_of}
 use Rattle.split_policy.specs.Rows.{keys_of}
 use Rattle.split_policy.proofs.Laws.{each-answer, cut-attribute, cut-divides, cut-within, cut-fresh, cut-limits}

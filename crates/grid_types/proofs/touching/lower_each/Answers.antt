@@ -1,0 +1,6 @@
+use Rattle.std.proofs.Common.{sym, ◌∙◌, arith, min}
+use Rattle.grid_types.proofs.Zipped.{is-zip}
+use Rattle.grid_types.proofs.touching.lower_each.Goals as goal
+
+pub returns : goal.returns
+returns g c = is-zip min c.args.these.now c.args.those.now c.loop-a.lower (c.told-these ∙ sym c.told-those) (c.loop-a.invariant.count ∙ sym c.told-these) (λ k h. c.loop-a.invariant.each k (omega (arith, h, c.told-these, c.loop-a-test.false)))
