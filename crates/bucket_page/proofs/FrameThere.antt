@@ -12,7 +12,7 @@ use Rattle.grid_model.proofs.Corners.{length-key}
 use Rattle.grid_model.specs.Spellings.{BucketOf, record_bytes, bucket_head, bucket_spelling}
 use Rattle.grid_model.specs.Buckets.{IsBucket}
 use Rattle.bucket_page.specs.Judging.{IsHeadFramed, IsRecordFramed}
-use Rattle.bucket_page.proofs.ZeroWords.{covered}
+use Rattle.page_fields.proofs.ZeroWords.{covered}
 use Rattle.bucket_page.proofs.Standing.{length_row}
 use Rattle.bucket_page.proofs.Pointwise.{IsRow, by_index}
 

@@ -12,4 +12,3 @@ pub mod Pointwise
 pub mod Searches
 pub mod Standing
 pub mod Tables
-pub mod ZeroWords

@@ -4,9 +4,8 @@ ghost use Rattle.grid_types.specs.declared.sizes.TheConstants.{MOST_ATTRIBUTES};
 ghost use Rattle.bucket_page.specs.OnPage.{head_told};
 ghost use Rattle.bucket_page.specs.Judging.{IsHeadFramed, IsSoundHead};
 
-use crate::words::are_zeros;
 use grid_types::{HEAD_BYTES, KEY_BYTES, PAGE_BYTES, Region};
-use page_fields::{get_corner, get_u16, get_u32};
+use page_fields::{get_corner, get_u16, get_u32, zeros};
 
 /// What a bucket's page says of its bucket, beside the records.
 #[derive(Clone, Copy, Debug, PartialEq, Eq)]
@@ -42,9 +41,9 @@ fn is_framed<const K: usize>(page: &[u8; PAGE_BYTES]) -> bool
 {
     page.starts_with(b"GFB1")
         && page[11] as usize == K
-        && are_zeros(page, 12, 16)
-        && are_zeros(page, 16 + 8 * K, 16 + KEY_BYTES)
-        && are_zeros(page, 16 + KEY_BYTES + 8 * K, HEAD_BYTES)
+        && zeros(page, 12, 16)
+        && zeros(page, 16 + 8 * K, 16 + KEY_BYTES)
+        && zeros(page, 16 + KEY_BYTES + 8 * K, HEAD_BYTES)
 }
 
 /// Whether the region has a key.

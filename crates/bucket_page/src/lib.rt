@@ -13,7 +13,6 @@ mod record;
 mod search;
 mod searching;
 mod table;
-mod words;
 mod writing;
 
 pub use bucket::{Bucket, MOST_IN_MEMORY};

@@ -6,9 +6,8 @@ ghost use Rattle.grid_types.specs.Keys.{key_cmp};
 ghost use Rattle.bucket_page.specs.OnPage.{numbers_at, data_at};
 ghost use Rattle.bucket_page.specs.Judging.{IsRecordIn};
 
-use crate::words::are_zeros;
 use grid_types::{DATA_AT, Data, KEY_BYTES, Key, LONGEST_DATA, PAGE_BYTES, RECORD_BYTES, Region};
-use page_fields::get_corner;
+use page_fields::{get_corner, zeros};
 use std::cmp::Ordering;
 
 /// The key at an offset.
@@ -30,8 +29,8 @@ pub fn is_record<const K: usize>(page: &[u8; PAGE_BYTES], at: usize, region: &Re
 {
     let len = page[at + KEY_BYTES] as usize;
     len <= LONGEST_DATA
-        && are_zeros(page, at + 8 * K, at + KEY_BYTES)
-        && are_zeros(page, at + DATA_AT + len, at + RECORD_BYTES)
+        && zeros(page, at + 8 * K, at + KEY_BYTES)
+        && zeros(page, at + DATA_AT + len, at + RECORD_BYTES)
         && region.contains(&key_at(page, at))
 }
 

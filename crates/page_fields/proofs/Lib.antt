@@ -7,3 +7,4 @@ pub mod Places
 pub mod Steps
 pub mod ZeroParts
 pub mod Series
+pub mod ZeroWords

@@ -1,11 +1,12 @@
 //! Numbers and fields in the bytes of a page, the highest byte first. A page is written in place, field by field, and
-//! judged by whole slices.
+//! judged by whole slices and by words.
 #![tactic(auto)]
 
 mod corner;
 mod judging;
 mod laws;
 mod numbers;
+mod words;
 mod writing;
 
 pub use corner::get_corner;

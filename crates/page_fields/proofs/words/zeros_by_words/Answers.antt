@@ -1,8 +1,8 @@
 use Rattle.std.proofs.Common.{◌≡◌, ◌+◌, ◌-◌, ◌*◌, ◌∙◌, sym, arith, lit<}
 use Rattle.std.proofs.lemmas.Bool.{false≢true}
 use Rattle.page_fields.specs.Fields.{AreZeros}
-use Rattle.bucket_page.proofs.ZeroWords.{eight_zeros, is_zero, zero_is, starts_zero, ends_zero, word_zeros, covered}
-use Rattle.bucket_page.proofs.words.are_zeros.Goals as goal
+use Rattle.page_fields.proofs.ZeroWords.{eight_zeros, is_zero, zero_is, starts_zero, ends_zero, word_zeros, covered}
+use Rattle.page_fields.proofs.words.zeros_by_words.Goals as goal
 
 pub returns-then-get_u64-ne0 : goal.returns-then-get_u64-ne0
 returns-then-get_u64-ne0 c = (

@@ -3,11 +3,11 @@ ghost use Rattle.std.specs.Prelude.{◌≤◌, ◌<◌, ◌+◌, ◌↔◌, IsTr
 ghost use Rattle.grid_types.specs.declared.sizes.TheConstants.{PAGE_BYTES};
 ghost use Rattle.page_fields.specs.Fields.{AreZeros};
 
+use crate::{get_u16, get_u32, get_u64};
 use grid_types::PAGE_BYTES;
-use page_fields::{get_u16, get_u32, get_u64};
 
 /// Whether fewer than four bytes are 0.
-fn are_three_zeros(page: &[u8; PAGE_BYTES], from: usize, to: usize) -> bool
+fn up_to_three_zeros(page: &[u8; PAGE_BYTES], from: usize, to: usize) -> bool
     requires inside { to ≤ PAGE_BYTES }
     requires few { to < from + 4 }
     ensures { IsTrue result ↔ AreZeros from to page.now }
@@ -22,26 +22,26 @@ fn are_three_zeros(page: &[u8; PAGE_BYTES], from: usize, to: usize) -> bool
 }
 
 /// Whether fewer than eight bytes are 0.
-fn are_seven_zeros(page: &[u8; PAGE_BYTES], from: usize, to: usize) -> bool
+fn up_to_seven_zeros(page: &[u8; PAGE_BYTES], from: usize, to: usize) -> bool
     requires inside { to ≤ PAGE_BYTES }
     requires few { to < from + 8 }
     requires start { from ≤ PAGE_BYTES }
     ensures { IsTrue result ↔ AreZeros from to page.now }
 {
     if to < from + 4 {
-        return are_three_zeros(page, from, to);
+        return up_to_three_zeros(page, from, to);
     }
     get_u32(page, from) == 0 && get_u32(page, to - 4) == 0
 }
 
 /// Whether the bytes from one offset up to another are 0. The last word may overlap the one before it.
-pub fn are_zeros(page: &[u8; PAGE_BYTES], from: usize, to: usize) -> bool
+pub(crate) fn zeros_by_words(page: &[u8; PAGE_BYTES], from: usize, to: usize) -> bool
     requires inside { to ≤ PAGE_BYTES }
     requires start { from ≤ PAGE_BYTES }
     ensures { IsTrue result ↔ AreZeros from to page.now }
 {
     if to < from + 8 {
-        return are_seven_zeros(page, from, to);
+        return up_to_seven_zeros(page, from, to);
     }
     let last = to - 8;
     for i in 0..(last - from + 7) / 8 {

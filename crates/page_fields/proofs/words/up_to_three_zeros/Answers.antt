@@ -1,6 +1,6 @@
 use Rattle.std.proofs.Common.{arith, lit<, ◌≡◌}
-use Rattle.bucket_page.proofs.ZeroWords.{two_zeros, is_zero, zero_is, starts_zero, ends_zero, both_zero}
-use Rattle.bucket_page.proofs.words.are_three_zeros.Goals as goal
+use Rattle.page_fields.proofs.ZeroWords.{two_zeros, is_zero, zero_is, starts_zero, ends_zero, both_zero}
+use Rattle.page_fields.proofs.words.up_to_three_zeros.Goals as goal
 
 pub returns-then-get_u16-eq0 : goal.returns-then-get_u16-eq0
 returns-then-get_u16-eq0 c =

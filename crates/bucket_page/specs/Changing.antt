@@ -1,0 +1,37 @@
+-- A bucket without a record, the parts of a bucket that is cut, and two buckets that are joined.
+use Rattle.std.specs.Prelude.{ℕ, List, map, filter, fold, min, nat_lt, nat_le, slice_index}
+use Rattle.grid_types.specs.declared.layout_change.Cut.{Cut}
+use Rattle.grid_types.specs.declared.update.Record.{Record}
+use Rattle.grid_model.specs.Lone.{record_of}
+use Rattle.grid_model.specs.Notes.{left_of, right_of, together}
+use Rattle.grid_model.specs.Tables.{Table, pairs_of, with_data, without}
+use Rattle.grid_model.specs.Spellings.{BucketOf}
+use Rattle.bucket_page.specs.Putting.{with_rows}
+
+-- the bucket without the record of a key
+abbrev pub without_key : {K : ℕ} → BucketOf K → List ℕ → BucketOf K
+without_key b k = with_rows b (map record_of (without (pairs_of b.rows) k))
+
+-- the records whose number in an attribute is below a boundary
+abbrev pub rows_below : {K : ℕ} → List (Record K) → ℕ → ℕ → List (Record K)
+rows_below rows a v = filter (λ r. nat_lt (slice_index r.key.numbers a) v) rows
+
+-- the others
+abbrev pub rows_from : {K : ℕ} → List (Record K) → ℕ → ℕ → List (Record K)
+rows_from rows a v = filter (λ r. nat_le v (slice_index r.key.numbers a)) rows
+
+-- the left part of a bucket that is cut: it keeps the number, and has the records below the boundary
+abbrev pub left_bucket : {K : ℕ} → BucketOf K → Cut → BucketOf K
+left_bucket b c = record { number = b.number; box = left_of b.box c; rows = rows_below b.rows c.attribute c.value }
+
+-- the right part: it gets a number of its own, and has the other records
+abbrev pub right_bucket : {K : ℕ} → BucketOf K → Cut → ℕ → BucketOf K
+right_bucket b c right = record { number = right; box = right_of b.box c; rows = rows_from b.rows c.attribute c.value }
+
+-- a table with these records put into it
+abbrev pub with_all : {K : ℕ} → Table → List (Record K) → Table
+with_all t rows = fold (λ u r. with_data u r.key.numbers r.value) t rows
+
+-- two buckets joined: the box of both under the lower number with the turn of the first, and the records of both
+abbrev pub joined_buckets : {K : ℕ} → BucketOf K → BucketOf K → BucketOf K
+joined_buckets b c = record { number = min b.number c.number; box = together b.box c.box; rows = map record_of (with_all (pairs_of b.rows) c.rows) }
