@@ -46,10 +46,10 @@ assembled A c X F B R new page t0 t1 t2 t3 t4 t5 m start e la lc lx is room fill
     sym (take_all 4096 t5 (omega (arith, whole))) ∙ g5 ∙ flat
 
 -- the parts of a bucket's head around the number of its records
-pub outer : {K : ℕ} → BucketOf K → List ℕ
+unfoldable pub outer : {K : ℕ} → BucketOf K → List ℕ
 outer b = codes "GFB1" ++ bytes_of 4 b.number
 
-pub inner : {K : ℕ} → BucketOf K → List ℕ
+unfoldable pub inner : {K : ℕ} → BucketOf K → List ℕ
 inner {K} b = b.box.turn ∷ K ∷ 0 ∷ 0 ∷ 0 ∷ 0 ∷ (padded 32 (numbers 8 b.box.region.lo) ++ (padded 32 (numbers 8 b.box.region.hi) ++ replicate 16 0))
 
 -- a spelling in parts

@@ -27,7 +27,7 @@ greater_of : (x y : List ℕ) → key_cmp y x ≡ Less → key_cmp x y ≡ Great
 greater_of x y e = nat_list_cmp_total.antisymm x y ∙ ap ordering_reverse e
 
 -- of records that ascend, an earlier one lies below a later one
-earlier : {K : ℕ} (rows : List (Record K)) (d : Record K) (i j : ℕ) → Ascends rows → i < j → j < length rows → key_cmp (get_or rows i d).key.numbers (get_or rows j d).key.numbers ≡ Less
+pub earlier : {K : ℕ} (rows : List (Record K)) (d : Record K) (i j : ℕ) → Ascends rows → i < j → j < length rows → key_cmp (get_or rows i d).key.numbers (get_or rows j d).key.numbers ≡ Less
 earlier rows d i zero a lt h = absurd (omega arith)
 earlier {K} rows d i (suc j) a lt h =
     let key : ℕ → List ℕ = λ n. (get_or rows n d).key.numbers in

@@ -12,3 +12,5 @@ pub mod Pointwise
 pub mod Searches
 pub mod Standing
 pub mod Tables
+mod Divided
+mod Shortened

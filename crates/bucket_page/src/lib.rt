@@ -7,12 +7,14 @@ mod head;
 mod judging;
 mod laws;
 mod matching;
+mod parting;
 mod putting;
 mod reading;
 mod record;
 mod search;
 mod searching;
 mod table;
+mod taking;
 mod writing;
 
 pub use bucket::{Bucket, MOST_IN_MEMORY};
@@ -23,6 +25,7 @@ pub use matching::{count_matching, push_matching};
 pub use putting::{insert_into, replace_into};
 pub use reading::decode;
 pub use searching::{data_on, find_on, get_on, record_on};
+pub use taking::remove_into;
 pub use writing::encode;
 
 #[cfg(test)]

@@ -9,6 +9,7 @@ use Rattle.grid_types.specs.declared.region.Region.{Region}
 use Rattle.grid_types.specs.declared.shape.Shape.{Shape}
 use Rattle.grid_types.specs.Regions.{contains, IsRegion, is_within}
 use Rattle.grid_types.proofs.Numbers.{both, first, second, each-at-most, as-long}
+use Rattle.grid_types.proofs.Parted.{above-low, up-to-high}
 use Rattle.grid_model.specs.Lists.{is_among}
 use Rattle.grid_model.specs.Scales.{scale_of}
 use Rattle.grid_model.specs.Tables.{Table, with_data}
@@ -16,7 +17,7 @@ use Rattle.grid_model.specs.Layouts.{BucketBox, records_inside}
 use Rattle.grid_model.specs.Cuts.{cut, divides, left_part, right_part}
 use Rattle.grid_model.specs.Notes.{keys_with, left_of, right_of}
 use Rattle.grid_model.specs.CutLaws.{CutsBest}
-use Rattle.grid_model.proofs.CutRegions.{left-contains, right-contains, above-low, up-to-high}
+use Rattle.grid_model.proofs.CutRegions.{left-contains, right-contains}
 use Rattle.grid_model.proofs.CutScales.{CutsScale}
 use Rattle.grid_model.proofs.RegionCounts.{keys_of, filter-both, filter-alike, keys-where, length-where, keys-put, count-put}
 

@@ -2,9 +2,9 @@
 use Rattle.std.proofs.Common.{◌≡◌, ◌<◌, ◌≤◌, ◌-◌, ℕ, zero, suc, Bool, true, false, ◌&&◌, List, [], ◌∷◌, length, slice_index, slice_set, nat_lt, nat_le, refl, sym, ap, ◌∙◌, arith, IsTrue, leb-true, le-leb, ltb-true, lt-ltb}
 use lib.Pointwise.{pointwise}
 use Rattle.grid_types.specs.declared.layout_change.Cut.{Cut}
-use Rattle.grid_types.specs.declared.region.Region.{Region}
 use Rattle.grid_types.specs.Regions.{contains, IsRegion, is_within}
 use Rattle.grid_types.proofs.Numbers.{both, first, second}
+use Rattle.grid_types.proofs.Parted.{above-low, up-to-high}
 use Rattle.grid_model.specs.Layouts.{BucketBox}
 use Rattle.grid_model.specs.Notes.{left_of, right_of}
 use Rattle.grid_model.specs.LayoutLaws.{PartsRegion}
@@ -57,14 +57,6 @@ move_and true true false = refl
 move_and true false true = refl
 move_and true false false = refl
 move_and false b c = refl
-
--- a boundary within a region is above its low bound
-pub above-low : {K : ℕ} (r : Region K) (a v : ℕ) → IsTrue (is_within r a v) → slice_index r.lo a < v
-above-low r a v w = ltb-true (slice_index r.lo a) v (first (nat_lt (slice_index r.lo a) v) (nat_le v (slice_index r.hi a)) w)
-
--- and at most its high bound
-pub up-to-high : {K : ℕ} (r : Region K) (a v : ℕ) → IsTrue (is_within r a v) → v ≤ slice_index r.hi a
-up-to-high r a v w = leb-true v (slice_index r.hi a) (second (nat_lt (slice_index r.lo a) v) (nat_le v (slice_index r.hi a)) w)
 
 -- the left part has the keys of the box below the boundary
 pub left-contains : {K : ℕ} (b : BucketBox K) (c : Cut) (k : List ℕ) → IsRegion K b.region → c.attribute < K → IsTrue (is_within b.region c.attribute c.value)

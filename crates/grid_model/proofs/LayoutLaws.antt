@@ -1,7 +1,6 @@
 -- A lawful note keeps a layout sound.
-use Rattle.std.proofs.Common.{◌≡◌, ◌≢◌, ◌<◌, ◌≤◌, ◌+◌, ◌-◌, ◌^◌, ◌⊎◌, inl, inr, ℕ, Bool, true, false, List, [], map, length, get_or, slice_index, slice_set, Option, Some, None, refl, sym, subst, ◌∙◌, arith, IsTrue, Contains, nat_cmp}
-use Rattle.std.proofs.lemmas.List.{length-set, length-map, get_or-map, get_or-set_same, get_or-set_other}
-use Rattle.std.specs.Ordering.{eq_by_cmp}
+use Rattle.std.proofs.Common.{◌≡◌, ◌≢◌, ◌<◌, ◌≤◌, ◌+◌, ◌-◌, ◌⊎◌, inl, inr, ℕ, Bool, true, false, List, [], map, length, get_or, slice_index, Option, Some, None, refl, sym, subst, arith, IsTrue, Contains}
+use Rattle.std.proofs.lemmas.List.{length-map, get_or-map}
 use Rattle.std.specs.Option.{option_map_or}
 use Rattle.grid_types.specs.declared.key.Key.{Key}
 use Rattle.grid_types.specs.declared.layout_change.Cut.{Cut}
@@ -12,6 +11,7 @@ use Rattle.grid_types.specs.declared.update.Record.{Record}
 use Rattle.grid_types.specs.declared.update.Update.{Update}
 use Rattle.grid_types.specs.declared.update.Update.TheVariants.{Put, Remove}
 use Rattle.grid_types.specs.Regions.{contains, IsRegion}
+use Rattle.grid_types.proofs.Parted.{set-each, below-region, from-region}
 use Rattle.grid_model.specs.Tables.{Table, IsTableOf, with_data, without, effect}
 use Rattle.grid_model.specs.Lawful.{IsUpdateOf}
 use Rattle.grid_model.specs.Scales.{scale_of, is_drawn}
@@ -22,24 +22,14 @@ use Rattle.grid_model.specs.Neighbours.{partners}
 use Rattle.grid_model.specs.ScaleLaws.{PartsNumbers}
 use Rattle.grid_model.specs.CutLaws.{CutsBest}
 use Rattle.grid_model.specs.LayoutLaws.{StandsOver, Fits, KeepsSound}
-use Rattle.grid_model.proofs.Found.{one-number, two-numbers}
 use Rattle.grid_model.proofs.Holders.{after-there}
 use Rattle.grid_model.proofs.LeastUnused.{least-unused}
 use Rattle.grid_model.proofs.RegionCounts.{count-put-outside}
-use Rattle.grid_model.proofs.CutRegions.{above-low, up-to-high}
 use Rattle.grid_model.proofs.CutScales.{AreScales, AreAfter, cut-scales, drawn-below, drawn-above}
 use Rattle.grid_model.proofs.CutBoxes.{each-part, split-numbered, length-split, split-covers, split-apart}
 use Rattle.grid_model.proofs.CutParts.{Cuts, cuts}
 use Rattle.grid_model.proofs.LayoutKept.{table-after, its-table, remove-plain, put-plain, put-never-merges, PutBox, put-box, PutNote, There, HasRoom, IsCut, noted}
 use Rattle.grid_model.proofs.NewLayout.{new-stands}
-
--- what a list of numbers with one other number has at a place
-set_each : (P : ℕ → ℕ → Type 0) (xs : List ℕ) (a v i : ℕ) → a < length xs → P a v → P i (slice_index xs i) → P i (slice_index (slice_set xs a v) i)
-set_each P xs a v i records_inside here there = by (eq_by_cmp nat_cmp i a) refl
-  where
-    by : (b : Bool) → eq_by_cmp nat_cmp i a ≡ b → P i (slice_index (slice_set xs a v) i)
-    by true e = subst (λ j. P j (slice_index (slice_set xs a v) j)) (sym (one-number i a e)) (subst (P a) (sym (get_or-set_same xs a v 0 records_inside)) here)
-    by false e = subst (P i) (sym (get_or-set_other xs a i v 0 (two-numbers i a e))) there
 
 module _ {K : ℕ} (numbers : PartsNumbers) (shape : Shape) (L : Layout K) (t : Table) (r : Record K) (n : ℕ) (b : BucketBox K) (c : Cut) (h : StandsOver shape L t) (lawful : IsUpdateOf K (Put r)) (there : box L n ≡ Some b)
     (has : contains b.region r.key.numbers ≡ true) (is : Cuts shape L.scales b t r.key.numbers c) where
@@ -52,15 +42,6 @@ module _ {K : ℕ} (numbers : PartsNumbers) (shape : Shape) (L : Layout K) (t : 
   region : IsRegion K b.region
   region = h.sound.regions n b there
 
-  above : slice_index b.region.lo c.attribute < c.value
-  above = above-low b.region c.attribute c.value is.within
-
-  most : c.value ≤ slice_index b.region.hi c.attribute
-  most = up-to-high b.region c.attribute c.value is.within
-
-  last : slice_index b.region.hi c.attribute < 2 ^ 64
-  last = region.high.in_range c.attribute
-
   in_low : c.attribute < length b.region.lo
   in_low = let count : length b.region.lo ≡ K = region.low.count in let records_inside = is.attribute in omega (arith, count, records_inside)
 
@@ -68,36 +49,22 @@ module _ {K : ℕ} (numbers : PartsNumbers) (shape : Shape) (L : Layout K) (t : 
   in_high = let count : length b.region.hi ≡ K = region.high.count in let records_inside = is.attribute in omega (arith, count, records_inside)
 
   left_region : IsRegion K (left_of b c).region
-  left_region = record {
-    low = region.low;
-    high = record {
-      count = length-set b.region.hi c.attribute (c.value - 1) ∙ region.high.count;
-      in_range = λ a. set_each (λ _ x. x < 2 ^ 64) b.region.hi c.attribute (c.value - 1) a in_high (omega (arith, most, last)) (region.high.in_range a);
-    };
-    not_empty = λ a i. set_each (λ j x. slice_index b.region.lo j ≤ x) b.region.hi c.attribute (c.value - 1) a in_high (omega (arith, above)) (region.not_empty a i);
-  }
+  left_region = below-region b.region c.attribute c.value region is.attribute is.within
 
   right_region : IsRegion K (right_of b c).region
-  right_region = record {
-    low = record {
-      count = length-set b.region.lo c.attribute c.value ∙ region.low.count;
-      in_range = λ a. set_each (λ _ x. x < 2 ^ 64) b.region.lo c.attribute c.value a in_low (omega (arith, most, last)) (region.low.in_range a);
-    };
-    high = region.high;
-    not_empty = λ a i. set_each (λ j x. x ≤ slice_index b.region.hi j) b.region.lo c.attribute c.value a in_low most (region.not_empty a i);
-  }
+  right_region = from-region b.region c.attribute c.value region is.attribute is.within
 
   -- a box that was drawn is drawn on the scales after the cut
   still_drawn : (m : ℕ) (d : BucketBox K) → box L m ≡ Some d → IsDrawn (scales_after L.scales c) d
   still_drawn m d at a i = after_cut.drawn a (slice_index d.region.lo a) (slice_index d.region.hi a) i (h.sound.drawn m d at a i)
 
   left_drawn : IsDrawn (scales_after L.scales c) (left_of b c)
-  left_drawn a i = set_each (λ j x. IsTrue (is_drawn (scale_of (scales_after L.scales c) j) (slice_index b.region.lo j) x)) b.region.hi c.attribute (c.value - 1) a in_high
+  left_drawn a i = set-each (λ j x. IsTrue (is_drawn (scale_of (scales_after L.scales c) j) (slice_index b.region.lo j) x)) b.region.hi c.attribute (c.value - 1) a in_high
       (drawn-below (scale_of (scales_after L.scales c) c.attribute) c.value (slice_index b.region.lo c.attribute) (slice_index b.region.hi c.attribute) after_cut.boundary (still_drawn n b there c.attribute is.attribute))
       (still_drawn n b there a i)
 
   right_drawn : IsDrawn (scales_after L.scales c) (right_of b c)
-  right_drawn a i = set_each (λ j x. IsTrue (is_drawn (scale_of (scales_after L.scales c) j) x (slice_index b.region.hi j))) b.region.lo c.attribute c.value a in_low
+  right_drawn a i = set-each (λ j x. IsTrue (is_drawn (scale_of (scales_after L.scales c) j) x (slice_index b.region.hi j))) b.region.lo c.attribute c.value a in_low
       (drawn-above (scale_of (scales_after L.scales c) c.attribute) c.value (slice_index b.region.lo c.attribute) (slice_index b.region.hi c.attribute) after_cut.boundary (still_drawn n b there c.attribute is.attribute))
       (still_drawn n b there a i)
 

@@ -6,4 +6,5 @@ mod Vectors
 pub mod HalvesLemmas
 pub mod Zipped
 mod Meeting
+pub mod Parted
 mod Adjoining

@@ -96,6 +96,7 @@ impl<const K: usize> Region<K> {
         requires within { IsTrue (is_within self.now attribute value) }
         ensures below { result.0 ≡ part_below self.now attribute value }
         ensures from { result.1 ≡ part_from self.now attribute value }
+        ensures regions { IsRegion K self.now → IsRegion K result.0 × IsRegion K result.1 }
     {
         let mut below = *self;
         let mut from = *self;
