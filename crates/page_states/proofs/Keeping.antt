@@ -8,14 +8,13 @@ use Rattle.grid_types.specs.declared.owner.Owner.{Owner}
 use Rattle.grid_types.specs.declared.owner.Owner.TheVariants.{Bucket, Part}
 use Rattle.page_states.specs.declared.page_state.PageState.{PageState}
 use Rattle.page_states.specs.declared.page_state.PageState.TheVariants.{Free, Claimed, Live}
-use Rattle.page_states.specs.Counts.{times}
+use Rattle.page_states.specs.Counts.{IsListOf}
 use Rattle.page_states.specs.States.{is_free, is_claimed, is_replaced, slot}
-use Rattle.page_states.specs.Sound.{is_held, Sound, AreHints, AreNewest, IsLowest}
+use Rattle.page_states.specs.Sound.{Sound, AreHints, AreNewest, IsLowest}
 use Rattle.page_states.proofs.Lists.{get_set, get_set_same, get_set_other}
 use Rattle.page_states.proofs.Counting.{count_set, list_add, list_out, list_same}
 use Rattle.page_states.proofs.Hints.{free_hint, free_lowest}
-use Rattle.page_states.proofs.Frees.{times_at}
-use Rattle.page_states.proofs.Olds.{not_anchored, loose_not_anchored, olds_more, olds_less, olds_held, olds_loosened, held_stays, held_more, held_less}
+use Rattle.page_states.proofs.Olds.{olds_more, olds_less}
 
 -- two owners have two slots
 pub slot_tells : (a b : Owner) → slot a ≡ slot b → a ≡ b
@@ -37,25 +36,24 @@ lowest_stays : (states : List PageState) (low p : ℕ) (y : PageState) → (y �
 lowest_stays states low p y other old q has = elim (get_set states p q y Free has) [ inl w ↦ absurd (other (sym w.1)) | inr w ↦ old q w.1 ]
 
 -- equal fields are as sound
-pub sound_same : (s t : List PageState) (m n : List (Option ℕ)) (c d a b l k h i : List ℕ) (u v : Option ℕ) (w x e f : ℕ) → Sound s m c a l h u w e
-    → t ≡ s → n ≡ m → d ≡ c → b ≡ a → k ≡ l → i ≡ h → v ≡ u → x ≡ w → f ≡ e → Sound t n d b k i v x f
-sound_same s t m n c d a b l k h i u v w x e f sound st nm dc ba kl ih vu xw fe =
-    subst (λ (z : List PageState). Sound z n d b k i v x f) (sym st) (subst (λ (z : List (Option ℕ)). Sound s z d b k i v x f) (sym nm) (subst (λ (z : List ℕ). Sound s m z b k i v x f) (sym dc)
-    (subst (λ (z : List ℕ). Sound s m c z k i v x f) (sym ba) (subst (λ (z : List ℕ). Sound s m c a z i v x f) (sym kl) (subst (λ (z : List ℕ). Sound s m c a l z v x f) (sym ih)
-    (subst (λ (z : Option ℕ). Sound s m c a l h z x f) (sym vu) (subst (λ (z : ℕ). Sound s m c a l h u z f) (sym xw) (subst (λ (z : ℕ). Sound s m c a l h u w z) (sym fe) sound))))))))
+pub sound_same : (s t : List PageState) (m n : List (Option ℕ)) (c d a b l k h i : List ℕ) (w x e f : ℕ) → Sound s m c a l h w e
+    → t ≡ s → n ≡ m → d ≡ c → b ≡ a → k ≡ l → i ≡ h → x ≡ w → f ≡ e → Sound t n d b k i x f
+sound_same s t m n c d a b l k h i w x e f sound st nm dc ba kl ih xw fe =
+    subst (λ (z : List PageState). Sound z n d b k i x f) (sym st) (subst (λ (z : List (Option ℕ)). Sound s z d b k i x f) (sym nm) (subst (λ (z : List ℕ). Sound s m z b k i x f) (sym dc)
+    (subst (λ (z : List ℕ). Sound s m c z k i x f) (sym ba) (subst (λ (z : List ℕ). Sound s m c a z i x f) (sym kl) (subst (λ (z : List ℕ). Sound s m c a l z x f) (sym ih)
+    (subst (λ (z : ℕ). Sound s m c a l h z f) (sym xw) (subst (λ (z : ℕ). Sound s m c a l h w z) (sym fe) sound)))))))
 
--- where no page is anchored, the anchor may be any
-pub anchor_any : (s : List PageState) (m : List (Option ℕ)) (c a l h : List ℕ) (u v : Option ℕ) (w e : ℕ) → length a ≡ 0 → Sound s m c a l h u w e → Sound s m c a l h v w e
-anchor_any s m c [] l h u v w e none sound = record { few = sound.few; slots = sound.slots; blocks = sound.blocks; current = sound.current; claims = sound.claims; olds = sound.olds; held = λ p x some has. absurd (omega (arith, some)); counted = sound.counted; hinted = sound.hinted; lowest = sound.lowest }
-anchor_any s m c (p ∷ a) l h u v w e none sound = absurd (omega (arith, none))
+-- the replaced pages may stand otherwise in the two lists
+pub sound_olds : (s : List PageState) (m : List (Option ℕ)) (c a b l k h : List ℕ) (w e : ℕ) → Sound s m c a l h w e → IsListOf is_replaced (b ++ k) s → Sound s m c b k h w e
+sound_olds s m c a b l k h w e sound olds = record { few = sound.few; slots = sound.slots; blocks = sound.blocks; current = sound.current; claims = sound.claims; olds = olds; counted = sound.counted; hinted = sound.hinted; lowest = sound.lowest }
 
-module _ (states : List PageState) (newest : List (Option ℕ)) (claimed anchored loose hints : List ℕ) (anchor : Option ℕ) (low free : ℕ)
-    (sound : Sound states newest claimed anchored loose hints anchor low free) (p : ℕ) where
+module _ (states : List PageState) (newest : List (Option ℕ)) (claimed anchored loose hints : List ℕ) (low free : ℕ)
+    (sound : Sound states newest claimed anchored loose hints low free) (p : ℕ) where
   same_length : (y : PageState) → length (slice_set states p y) ≡ length states
   same_length y = length-set states p y
 
   -- a free page is claimed
-  pub claim_keeps : (seat : ℕ) → slice_get states p ≡ Some Free → Sound (slice_set states p (Claimed seat)) newest (claimed ++ p ∷ []) anchored loose hints anchor low (free - 1)
+  pub claim_keeps : (seat : ℕ) → slice_get states p ≡ Some Free → Sound (slice_set states p (Claimed seat)) newest (claimed ++ p ∷ []) anchored loose hints low (free - 1)
   claim_keeps seat has = record {
     few = omega (arith, same_length (Claimed seat), sound.few);
     slots = omega (arith, same_length (Claimed seat), sound.slots);
@@ -63,7 +61,6 @@ module _ (states : List PageState) (newest : List (Option ℕ)) (claimed anchore
     current = newest_stays states newest p (Claimed seat) (λ o from e. cc) sound.current;
     claims = list_add is_claimed claimed states p Free (Claimed seat) has refl refl sound.claims;
     olds = list_same is_replaced (anchored ++ loose) states p Free (Claimed seat) has refl sound.olds;
-    held = held_stays anchor anchored states p (Claimed seat) (not_anchored anchored loose states sound.olds p Free has refl) sound.held;
     counted =
         let less : count_by is_free (slice_set states p (Claimed seat)) + 1 ≡ count_by is_free states + 0 = count_set is_free states p Free (Claimed seat) has in
         omega (arith, less, sound.counted);
@@ -72,7 +69,7 @@ module _ (states : List PageState) (newest : List (Option ℕ)) (claimed anchore
   }
 
   -- the current page of an owner is replaced
-  pub end_keeps : (owner : Owner) (from at : ℕ) → slice_get states p ≡ Some (Live owner from None) → Sound (slice_set states p (Live owner from (Some at))) newest claimed anchored (loose ++ p ∷ []) hints anchor low free
+  pub end_keeps : (owner : Owner) (from at : ℕ) → slice_get states p ≡ Some (Live owner from None) → Sound (slice_set states p (Live owner from (Some at))) newest claimed anchored (loose ++ p ∷ []) hints low free
   end_keeps owner from at has = record {
     few = omega (arith, same_length (Live owner from (Some at)), sound.few);
     slots = omega (arith, same_length (Live owner from (Some at)), sound.slots);
@@ -80,7 +77,6 @@ module _ (states : List PageState) (newest : List (Option ℕ)) (claimed anchore
     current = newest_stays states newest p (Live owner from (Some at)) (λ o f e. cc) sound.current;
     claims = list_same is_claimed claimed states p (Live owner from None) (Live owner from (Some at)) has refl sound.claims;
     olds = olds_more anchored loose states sound.olds p (Live owner from None) (Live owner from (Some at)) has refl refl;
-    held = held_stays anchor anchored states p (Live owner from (Some at)) (not_anchored anchored loose states sound.olds p (Live owner from None) has refl) sound.held;
     counted =
         let same : count_by is_free (slice_set states p (Live owner from (Some at))) + 0 ≡ count_by is_free states + 0 = count_set is_free states p (Live owner from None) (Live owner from (Some at)) has in
         omega (arith, same, sound.counted);
@@ -90,7 +86,7 @@ module _ (states : List PageState) (newest : List (Option ℕ)) (claimed anchore
 
   -- a claimed page becomes the current page of an owner who has none
   pub begin_keeps : (seat : ℕ) (owner : Owner) (at i d : ℕ) → slice_get states p ≡ Some (Claimed seat) → ((q from : ℕ) → slice_get states q ≡ Some (Live owner from None) → ⊥) → i < length claimed → get_or claimed i d ≡ p
-      → slot owner < length newest → Sound (slice_set states p (Live owner at None)) (slice_set newest (slot owner) (Some p)) (swap_remove claimed i d) anchored loose hints anchor low free
+      → slot owner < length newest → Sound (slice_set states p (Live owner at None)) (slice_set newest (slot owner) (Some p)) (swap_remove claimed i d) anchored loose hints low free
   begin_keeps seat owner at i d has alone inside there within = record {
     few = omega (arith, same_length (Live owner at None), sound.few);
     slots = omega (arith, same_length (Live owner at None), sound.slots, length-set newest (slot owner) (Some p));
@@ -106,7 +102,6 @@ module _ (states : List PageState) (newest : List (Option ℕ)) (claimed anchore
     ];
     claims = list_out is_claimed claimed states p (Claimed seat) (Live owner at None) i d has inside there refl sound.claims;
     olds = list_same is_replaced (anchored ++ loose) states p (Claimed seat) (Live owner at None) has refl sound.olds;
-    held = held_stays anchor anchored states p (Live owner at None) (not_anchored anchored loose states sound.olds p (Claimed seat) has refl) sound.held;
     counted =
         let same : count_by is_free (slice_set states p (Live owner at None)) + 0 ≡ count_by is_free states + 0 = count_set is_free states p (Claimed seat) (Live owner at None) has in
         omega (arith, same, sound.counted);
@@ -121,7 +116,7 @@ module _ (states : List PageState) (newest : List (Option ℕ)) (claimed anchore
 
   -- a claimed page is given back
   pub back_keeps : (seat v w i d : ℕ) → slice_get states p ≡ Some (Claimed seat) → i < length claimed → get_or claimed i d ≡ p → v ≤ p → v ≤ slice_index hints (p / 256) → w ≤ low → w ≤ p / 256
-      → Sound (slice_set states p Free) newest (swap_remove claimed i d) anchored loose (slice_set hints (p / 256) v) anchor w (free + 1)
+      → Sound (slice_set states p Free) newest (swap_remove claimed i d) anchored loose (slice_set hints (p / 256) v) w (free + 1)
   back_keeps seat v w i d has inside there under lower first here = record {
     few = omega (arith, same_length Free, sound.few);
     slots = omega (arith, same_length Free, sound.slots);
@@ -129,7 +124,6 @@ module _ (states : List PageState) (newest : List (Option ℕ)) (claimed anchore
     current = newest_stays states newest p Free (λ o from e. cc) sound.current;
     claims = list_out is_claimed claimed states p (Claimed seat) Free i d has inside there refl sound.claims;
     olds = list_same is_replaced (anchored ++ loose) states p (Claimed seat) Free has refl sound.olds;
-    held = held_stays anchor anchored states p Free (not_anchored anchored loose states sound.olds p (Claimed seat) has refl) sound.held;
     counted =
         let more : count_by is_free (slice_set states p Free) + 0 ≡ count_by is_free states + 1 = count_set is_free states p (Claimed seat) Free has in
         omega (arith, more, sound.counted);
@@ -137,42 +131,9 @@ module _ (states : List PageState) (newest : List (Option ℕ)) (claimed anchore
     lowest = free_lowest states low p w first here sound.lowest;
   }
 
-  loose_at : (i d : ℕ) → i < length loose → get_or loose i d ≡ p → 0 < times p loose
-  loose_at i d inside there = subst (λ (k : ℕ). 0 < times k loose) (get_or_default loose i 0 d inside ∙ there) (times_at loose i inside)
-
-  -- a loose page is held from now on
-  pub hold_keeps : (i d : ℕ) → i < length loose → get_or loose i d ≡ p → ((x : PageState) → slice_get states p ≡ Some x → is_held anchor x ≡ true) → Sound states newest claimed (anchored ++ p ∷ []) (swap_remove loose i d) hints anchor low free
-  hold_keeps i d inside there is = record {
-    few = sound.few;
-    slots = sound.slots;
-    blocks = sound.blocks;
-    current = sound.current;
-    claims = sound.claims;
-    olds = olds_held anchored loose states sound.olds p i d inside there;
-    held = held_more anchor anchored states p is sound.held;
-    counted = sound.counted;
-    hinted = sound.hinted;
-    lowest = sound.lowest;
-  }
-
-  -- an anchored page is loose from now on
-  pub loosen_keeps : (i d : ℕ) → i < length anchored → get_or anchored i d ≡ p → Sound states newest claimed (swap_remove anchored i d) (loose ++ p ∷ []) hints anchor low free
-  loosen_keeps i d inside there = record {
-    few = sound.few;
-    slots = sound.slots;
-    blocks = sound.blocks;
-    current = sound.current;
-    claims = sound.claims;
-    olds = olds_loosened anchored loose states sound.olds p i d inside there;
-    held = held_less anchor anchored states i d inside sound.held;
-    counted = sound.counted;
-    hinted = sound.hinted;
-    lowest = sound.lowest;
-  }
-
   -- a loose page is freed
   pub sweep_keeps : (owner : Owner) (from to v w i d : ℕ) → slice_get states p ≡ Some (Live owner from (Some to)) → i < length loose → get_or loose i d ≡ p → v ≤ p → v ≤ slice_index hints (p / 256) → w ≤ low → w ≤ p / 256
-      → Sound (slice_set states p Free) newest claimed anchored (swap_remove loose i d) (slice_set hints (p / 256) v) anchor w (free + 1)
+      → Sound (slice_set states p Free) newest claimed anchored (swap_remove loose i d) (slice_set hints (p / 256) v) w (free + 1)
   sweep_keeps owner from to v w i d has inside there under lower first here = record {
     few = omega (arith, same_length Free, sound.few);
     slots = omega (arith, same_length Free, sound.slots);
@@ -180,7 +141,6 @@ module _ (states : List PageState) (newest : List (Option ℕ)) (claimed anchore
     current = newest_stays states newest p Free (λ o f e. cc) sound.current;
     claims = list_same is_claimed claimed states p (Live owner from (Some to)) Free has refl sound.claims;
     olds = olds_less anchored loose states sound.olds p (Live owner from (Some to)) Free i d has inside there refl;
-    held = held_stays anchor anchored states p Free (loose_not_anchored anchored loose states sound.olds p (Live owner from (Some to)) (loose_at i d inside there) has) sound.held;
     counted =
         let more : count_by is_free (slice_set states p Free) + 0 ≡ count_by is_free states + 1 = count_set is_free states p (Live owner from (Some to)) Free has in
         omega (arith, more, sound.counted);

@@ -47,7 +47,7 @@ kept_at (p ∷ places) place (suc k) x low there shown = by (is_current_at p x) 
     by true e = refl
     by false e = e
 
-shown_is_current : (o : Owner) (place : ℕ) (x : PageState) → shows o place x ≡ true → is_current_at place x ≡ true
+pub shown_is_current : (o : Owner) (place : ℕ) (x : PageState) → shows o place x ≡ true → is_current_at place x ≡ true
 shown_is_current o place Free e = absurd cc
 shown_is_current o place (Claimed s) e = absurd cc
 shown_is_current o place (Live w from to) e = second_holds (same_owner w o) (is_current_at place (Live w from to)) e

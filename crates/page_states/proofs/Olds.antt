@@ -1,5 +1,5 @@
 -- The replaced pages, as the anchored ones and the loose ones.
-use Rattle.std.proofs.Common.{◌≡◌, inl, inr, ℕ, ◌+◌, ◌<◌, ◌≤◌, List, [], ◌∷◌, ◌++◌, Bool, true, false, Option, Some, None, refl, sym, ◌∙◌, ap, subst, length, get_or, arith}
+use Rattle.std.proofs.Common.{◌≡◌, inl, inr, ℕ, ◌+◌, ◌<◌, ◌≤◌, List, [], ◌∷◌, ◌++◌, Bool, true, false, Some, refl, sym, ◌∙◌, ap, subst, length, get_or, arith}
 use Rattle.std.specs.Prelude.{◌==◌, slice_get, slice_set, slice_index}
 use Rattle.std.specs.List.{count_by, swap_remove}
 use Rattle.std.proofs.lemmas.Bool.{cases_eq, cases_lt}
@@ -8,13 +8,10 @@ use Rattle.std.proofs.lemmas.List.Sums.{sum_by-append, sum_by_push, count_by-le-
 use Rattle.page_states.specs.declared.page_state.PageState.{PageState}
 use Rattle.page_states.specs.declared.page_state.PageState.TheVariants.{Free}
 use Rattle.page_states.specs.Counts.{times, once, once_at, IsListOf}
-use Rattle.page_states.specs.States.{is_replaced, is_kept}
-use Rattle.page_states.specs.Effects.{is_gone, NoneFrom}
-use Rattle.page_states.specs.Sound.{is_held, AreHeld, IsAnchorAmong}
-use Rattle.page_states.proofs.Lists.{get_set}
-use Rattle.page_states.proofs.Counting.{once_other, at_some, once_no, list_add, list_less, taken_out, listed_passes, passing_listed, as_many}
-use Rattle.page_states.proofs.Frees.{times_at, index_in, gone_no}
-use Rattle.page_states.proofs.KeptPlaces.{kept_at}
+use Rattle.page_states.specs.States.{is_replaced}
+use Rattle.page_states.specs.Effects.{NoneFrom}
+use Rattle.page_states.proofs.Counting.{at_some, once_no, list_add, list_less, taken_out, listed_passes, passing_listed, as_many}
+use Rattle.page_states.proofs.Frees.{times_at, index_in}
 
 -- how often a number is in both lists
 pub both : (q : ℕ) (a l : List ℕ) → times q (a ++ l) ≡ times q a + times q l
@@ -35,12 +32,6 @@ module _ (anchored loose : List ℕ) (states : List PageState) (olds : IsListOf 
   -- a loose page is replaced
   pub loose_replaced : (p : ℕ) (x : PageState) → 0 < times p loose → slice_get states p ≡ Some x → is_replaced x ≡ true
   loose_replaced p x some has =
-      let sum : times p (anchored ++ loose) ≡ times p anchored + times p loose = both p anchored loose in
-      listed_passes is_replaced (anchored ++ loose) states p x olds (omega (arith, some, sum)) has
-
-  -- an anchored page is replaced
-  pub anchored_replaced : (p : ℕ) (x : PageState) → 0 < times p anchored → slice_get states p ≡ Some x → is_replaced x ≡ true
-  anchored_replaced p x some has =
       let sum : times p (anchored ++ loose) ≡ times p anchored + times p loose = both p anchored loose in
       listed_passes is_replaced (anchored ++ loose) states p x olds (omega (arith, some, sum)) has
 
@@ -65,26 +56,6 @@ module _ (anchored loose : List ℕ) (states : List PageState) (olds : IsListOf 
           let old : times r (anchored ++ loose) ≡ times r anchored + times r loose = both r anchored loose in
           let out : times r (swap_remove loose i d) + once (λ z. z == r) p ≡ times r loose = taken_out loose i d p r inside there in
           omega (arith, new, old, out)
-
-  -- a loose page becomes an anchored one
-  pub olds_held : (p i d : ℕ) → i < length loose → get_or loose i d ≡ p → IsListOf is_replaced ((anchored ++ p ∷ []) ++ swap_remove loose i d) states
-  olds_held p i d inside there q =
-      let new : times q ((anchored ++ p ∷ []) ++ swap_remove loose i d) ≡ times q (anchored ++ p ∷ []) + times q (swap_remove loose i d) = both q (anchored ++ p ∷ []) (swap_remove loose i d) in
-      let more : times q (anchored ++ p ∷ []) ≡ times q anchored + once (λ z. z == q) p = pushed q p anchored in
-      let old : times q (anchored ++ loose) ≡ times q anchored + times q loose = both q anchored loose in
-      let out : times q (swap_remove loose i d) + once (λ z. z == q) p ≡ times q loose = taken_out loose i d p q inside there in
-      let is : times q (anchored ++ loose) ≡ once_at is_replaced states q = olds q in
-      omega (arith, new, more, old, out, is)
-
-  -- an anchored page becomes a loose one
-  pub olds_loosened : (p i d : ℕ) → i < length anchored → get_or anchored i d ≡ p → IsListOf is_replaced (swap_remove anchored i d ++ (loose ++ p ∷ [])) states
-  olds_loosened p i d inside there q =
-      let new : times q (swap_remove anchored i d ++ (loose ++ p ∷ [])) ≡ times q (swap_remove anchored i d) + times q (loose ++ p ∷ []) = both q (swap_remove anchored i d) (loose ++ p ∷ []) in
-      let more : times q (loose ++ p ∷ []) ≡ times q loose + once (λ z. z == q) p = pushed q p loose in
-      let old : times q (anchored ++ loose) ≡ times q anchored + times q loose = both q anchored loose in
-      let out : times q (swap_remove anchored i d) + once (λ z. z == q) p ≡ times q anchored = taken_out anchored i d p q inside there in
-      let is : times q (anchored ++ loose) ≡ once_at is_replaced states q = olds q in
-      omega (arith, new, more, old, out, is)
 
   -- both lists together are no longer than the states
   pub olds_fit : length anchored + length loose ≤ length states
@@ -117,37 +88,78 @@ module _ (anchored loose : List ℕ) (states : List PageState) (olds : IsListOf 
       by false e = e
       by true e = none_of_replaced test in_anchored in_loose p x has (within x e)
 
--- a page that is not anchored may change
-pub held_stays : (anchor : Option ℕ) (list : List ℕ) (states : List PageState) (p : ℕ) (y : PageState) → times p list ≡ 0 → AreHeld anchor list states → AreHeld anchor list (slice_set states p y)
-held_stays anchor list states p y none old q x some has = elim (get_set states p q y x has) [
-  | inl w ↦
-      let no : times q list ≡ 0 = ap (λ (k : ℕ). times k list) w.0 ∙ none in
-      absurd (omega (arith, some, no))
-  | inr w ↦ old q x some w.1
+-- where no page of one list passes, and none of the other, none of both lists does
+pub none_in_both : (test : PageState → Bool) (states : List PageState) (a b : List ℕ) → NoneFrom test states a 0 → NoneFrom test states b 0 → NoneFrom test states (a ++ b) 0
+none_in_both test states a b in_a in_b j x low within has = elim (cases_lt 0 (times p a)) [
+  | inl some ↦ of a in_a some
+  | inr none ↦ of b in_b (omega (arith, some, sum, none))
 ]
+  where
+    p : ℕ
+    p = slice_index (a ++ b) j
 
--- one more page is held
-pub held_more : (anchor : Option ℕ) (list : List ℕ) (states : List PageState) (p : ℕ) → ((x : PageState) → slice_get states p ≡ Some x → is_held anchor x ≡ true) → AreHeld anchor list states → AreHeld anchor (list ++ p ∷ []) states
-held_more anchor list states p is old q x some has = elim (cases_eq q p) [
-  | inl e ↦ is x (ap (slice_get states) (sym e) ∙ has)
-  | inr n ↦
-      let more : times q (list ++ p ∷ []) ≡ times q list + once (λ z. z == q) p = pushed q p list in
-      let none : once (λ z. z == q) p ≡ 0 = once_other p q n in
-      old q x (omega (arith, some, more, none)) has
-]
+    some : 0 < times p (a ++ b)
+    some = times_at (a ++ b) j within
 
--- one page less is held
-pub held_less : (anchor : Option ℕ) (list : List ℕ) (states : List PageState) (i d : ℕ) → i < length list → AreHeld anchor list states → AreHeld anchor (swap_remove list i d) states
-held_less anchor list states i d inside old q x some has =
-    let out : times q (swap_remove list i d) + once (λ z. z == q) (get_or list i d) ≡ times q list = taken_out list i d (get_or list i d) q inside refl in
-    old q x (omega (arith, some, out)) has
+    sum : times p (a ++ b) ≡ times p a + times p b
+    sum = both p a b
 
--- a page that is held by an anchor among the places is kept
-held_is_kept : (places : List ℕ) (anchor : Option ℕ) (x : PageState) → IsAnchorAmong places anchor → is_held anchor x ≡ true → is_kept places x ≡ true
-held_is_kept places None x among e = absurd cc
-held_is_kept places (Some place) x among e = kept_at places place among.0 x among.1 among.2 e
+    of : (list : List ℕ) → NoneFrom test states list 0 → 0 < times p list → test x ≡ false
+    of list none there =
+        let at = index_in list p there in
+        none at.0 x (omega arith) at.1 (ap (slice_get states) at.2 ∙ has)
 
--- where the anchor is among the places, no anchored page is gone
-pub held_stay : (places : List ℕ) (anchor : Option ℕ) (list : List ℕ) (states : List PageState) → IsAnchorAmong places anchor → AreHeld anchor list states → NoneFrom (is_gone places) states list 0
-held_stay places anchor list states among held j x low within has =
-    gone_no places x (held_is_kept places anchor x among (held (slice_index list j) x (times_at list j within) has))
+module _ (a b loose : List ℕ) (states : List PageState) (olds : IsListOf is_replaced ((a ++ b) ++ loose) states) where
+  -- how often a number is in three lists
+  three : (q : ℕ) (x y z : List ℕ) → times q ((x ++ y) ++ z) ≡ times q x + times q y + times q z
+  three q x y z =
+      let outer : times q ((x ++ y) ++ z) ≡ times q (x ++ y) + times q z = both q (x ++ y) z in
+      let inner : times q (x ++ y) ≡ times q x + times q y = both q x y in
+      omega (arith, outer, inner)
+
+  -- a page of the first anchor is replaced
+  pub first_replaced : (p : ℕ) (x : PageState) → 0 < times p a → slice_get states p ≡ Some x → is_replaced x ≡ true
+  first_replaced p x some has =
+      let sum : times p ((a ++ b) ++ loose) ≡ times p a + times p b + times p loose = three p a b loose in
+      listed_passes is_replaced ((a ++ b) ++ loose) states p x olds (omega (arith, some, sum)) has
+
+  -- and so is one of the second
+  pub second_replaced : (p : ℕ) (x : PageState) → 0 < times p b → slice_get states p ≡ Some x → is_replaced x ≡ true
+  second_replaced p x some has =
+      let sum : times p ((a ++ b) ++ loose) ≡ times p a + times p b + times p loose = three p a b loose in
+      listed_passes is_replaced ((a ++ b) ++ loose) states p x olds (omega (arith, some, sum)) has
+
+  -- the two anchors may change places
+  pub olds_swapped : IsListOf is_replaced ((b ++ a) ++ loose) states
+  olds_swapped q =
+      let new : times q ((b ++ a) ++ loose) ≡ times q b + times q a + times q loose = three q b a loose in
+      let old : times q ((a ++ b) ++ loose) ≡ times q a + times q b + times q loose = three q a b loose in
+      let is : times q ((a ++ b) ++ loose) ≡ once_at is_replaced states q = olds q in
+      omega (arith, new, old, is)
+
+  -- a loose page becomes the first anchor's
+  pub olds_held : (p i d : ℕ) → i < length loose → get_or loose i d ≡ p → IsListOf is_replaced (((a ++ p ∷ []) ++ b) ++ swap_remove loose i d) states
+  olds_held p i d inside there q =
+      let new : times q (((a ++ p ∷ []) ++ b) ++ swap_remove loose i d) ≡ times q (a ++ p ∷ []) + times q b + times q (swap_remove loose i d) = three q (a ++ p ∷ []) b (swap_remove loose i d) in
+      let more : times q (a ++ p ∷ []) ≡ times q a + once (λ z. z == q) p = pushed q p a in
+      let old : times q ((a ++ b) ++ loose) ≡ times q a + times q b + times q loose = three q a b loose in
+      let out : times q (swap_remove loose i d) + once (λ z. z == q) p ≡ times q loose = taken_out loose i d p q inside there in
+      let is : times q ((a ++ b) ++ loose) ≡ once_at is_replaced states q = olds q in
+      omega (arith, new, more, old, out, is)
+
+  -- a page of the first anchor becomes a loose one
+  pub olds_loosened : (p i d : ℕ) → i < length a → get_or a i d ≡ p → IsListOf is_replaced ((swap_remove a i d ++ b) ++ (loose ++ p ∷ [])) states
+  olds_loosened p i d inside there q =
+      let new : times q ((swap_remove a i d ++ b) ++ (loose ++ p ∷ [])) ≡ times q (swap_remove a i d) + times q b + times q (loose ++ p ∷ []) = three q (swap_remove a i d) b (loose ++ p ∷ []) in
+      let more : times q (loose ++ p ∷ []) ≡ times q loose + once (λ z. z == q) p = pushed q p loose in
+      let old : times q ((a ++ b) ++ loose) ≡ times q a + times q b + times q loose = three q a b loose in
+      let out : times q (swap_remove a i d) + once (λ z. z == q) p ≡ times q a = taken_out a i d p q inside there in
+      let is : times q ((a ++ b) ++ loose) ≡ once_at is_replaced states q = olds q in
+      omega (arith, new, more, old, out, is)
+
+  -- the three lists together are no longer than the states
+  pub three_fit : length a + length b + length loose ≤ length states
+  three_fit =
+      let most : length (a ++ b) + length loose ≤ length states = olds_fit (a ++ b) loose states olds in
+      let sum : length (a ++ b) ≡ length a + length b = length-append a b in
+      omega (arith, most, sum)

@@ -81,6 +81,10 @@ pub record IsPageAt (owner : Owner) (place : ℕ) (states : List PageState) (p :
   pub there : slice_get states p ≡ Some state
   pub shown : shows owner place state ≡ true
 
+-- the page is not the owner's at the place
+abbrev pub IsNotShown : Owner → ℕ → List PageState → ℕ → Type 0
+IsNotShown owner place states p = (x : PageState) → slice_get states p ≡ Some x → shows owner place x ≡ false
+
 -- no page is the owner's at the place
 abbrev pub ShowsNone : Owner → ℕ → List PageState → Type 0
 ShowsNone owner place states = (p : ℕ) (x : PageState) → slice_get states p ≡ Some x → shows owner place x ≡ false

@@ -6,7 +6,8 @@ use Rattle.grid_types.specs.declared.sizes.TheConstants.{MOST_PAGES}
 use Rattle.page_states.specs.declared.page_state.PageState.{PageState}
 use Rattle.page_states.specs.declared.page_state.PageState.TheVariants.{Free, Live}
 use Rattle.page_states.specs.Counts.{times, IsListOf}
-use Rattle.page_states.specs.States.{is_free, is_claimed, is_replaced, is_current_at, slot}
+use Rattle.page_states.specs.States.{is_free, is_claimed, is_replaced, is_current_at, shows, slot}
+use Rattle.page_states.specs.Effects.{IsPageAt, NoneFrom}
 
 -- no free page of a block of 256 pages lies before the block's hint
 abbrev pub AreHints : List PageState → List ℕ → Type 0
@@ -50,13 +51,27 @@ abbrev pub is_held : Option ℕ → PageState → Bool
 is_held None x = false
 is_held (Some place) x = is_current_at place x
 
--- the page of the number is held by the anchor
-abbrev pub IsHeldAt : Option ℕ → List PageState → ℕ → Type 0
-IsHeldAt anchor states p = (x : PageState) → slice_get states p ≡ Some x → is_held anchor x ≡ true
-
 -- each page of the list is held by the anchor
 abbrev pub AreHeld : Option ℕ → List ℕ → List PageState → Type 0
 AreHeld anchor list states = (p : ℕ) (x : PageState) → 0 < times p list → slice_get states p ≡ Some x → is_held anchor x ≡ true
+
+-- each page of the list is written down at its owner's slot
+abbrev pub AreWritten : List (Option ℕ) → List ℕ → List PageState → Type 0
+AreWritten by_owner list states = (p : ℕ) (o : Owner) (from : ℕ) (to : Option ℕ) → 0 < times p list → slice_get states p ≡ Some (Live o from to) → slice_get by_owner (slot o) ≡ Some (Some p)
+
+-- there is a slot for the owner, and no page but this one is written down there that is the owner's at the place
+pub record HasRoomFor (owner : Owner) (place : ℕ) (states : List PageState) (by_owner : List (Option ℕ)) (p : ℕ) : Type 0 where
+  pub within : slot owner < length by_owner
+  pub alone : (q : ℕ) → slice_get by_owner (slot owner) ≡ Some (Some q) → IsPageAt owner place states q → q ≡ p
+
+-- the page is the owner's at the place, and can be written down at its slot
+pub record CanHold (owner : Owner) (place : ℕ) (states : List PageState) (by_owner : List (Option ℕ)) (p : ℕ) : Type 0 where
+  pub shown : IsPageAt owner place states p
+  pub room : HasRoomFor owner place states by_owner p
+
+-- no page of the list is the owner's at the place
+abbrev pub ShowedNoneOf : Owner → ℕ → List PageState → List ℕ → Type 0
+ShowedNoneOf owner place states list = NoneFrom (shows owner place) states list 0
 
 -- where there is an anchor, its place is one of these
 abbrev pub IsAnchorAmong : List ℕ → Option ℕ → Type 0
@@ -71,14 +86,13 @@ abbrev pub IsLowest : List PageState → ℕ → Type 0
 IsLowest states low = (p : ℕ) → slice_get states p ≡ Some Free → low ≤ p / 256
 
 -- the hidden lists are those of the states: the replaced pages are the anchored ones and the loose ones, each once
-pub record Sound (states : List PageState) (newest : List (Option ℕ)) (claimed anchored loose hints : List ℕ) (anchor : Option ℕ) (low free : ℕ) : Type 0 where
+pub record Sound (states : List PageState) (newest : List (Option ℕ)) (claimed anchored loose hints : List ℕ) (low free : ℕ) : Type 0 where
   pub few : length states ≤ MOST_PAGES
   pub slots : length newest ≡ 2 * length states
   pub blocks : length hints ≡ length states / 256 + 1
   pub current : AreNewest states newest
   pub claims : IsListOf is_claimed claimed states
   pub olds : IsListOf is_replaced (anchored ++ loose) states
-  pub held : AreHeld anchor anchored states
   pub counted : free ≡ count_by is_free states
   pub hinted : AreHints states hints
   pub lowest : IsLowest states low

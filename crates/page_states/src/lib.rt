@@ -1,6 +1,7 @@
 //! The state of each data page: free, claimed by a seat, or live, the page of an owner from a place on.
 #![tactic(auto)]
 
+mod anchor;
 mod anchors;
 mod claiming;
 mod current;

@@ -5,9 +5,11 @@ ghost use Rattle.page_states.specs.declared.page_state.PageState.{PageState};
 ghost use Rattle.page_states.specs.declared.page_state.PageState.TheVariants.{Live};
 ghost use Rattle.page_states.specs.States.{is_free, is_claimed_by, is_replaced, number_of, shows};
 ghost use Rattle.page_states.specs.Effects.{IsPageAt, ShowsNone, ShowedNone, BeganBeyond, NoneFrom};
+ghost use Rattle.page_states.specs.Sound.{ShowedNoneOf};
 ghost use Rattle.page_states.specs.Tables.{IsPageTable};
 
 use crate::PageState;
+use crate::anchor::anchored_page_at;
 use crate::numbers::number_at;
 use crate::page_state::shows;
 use crate::publishing::current_page;
@@ -58,16 +60,31 @@ fn shown_in(states: &Vec<PageState>, list: &Vec<u32>, owner: Owner, place: u64) 
     None
 }
 
+/// A page of the anchors that was an owner's at the place.
+fn anchored_at(table: &Table, owner: Owner, place: u64) -> Option<u32>
+    requires table { IsPageTable table.now }
+    requires known { number_of owner < length table.now.states.items }
+    ensures found { IfSome result (λ p. IsPageAt owner place table.now.states.items p) }
+    ensures first { IfNone result (ShowedNoneOf owner place table.now.states.items table.now.first.pages.items) }
+    ensures second { IfNone result (ShowedNoneOf owner place table.now.states.items table.now.second.pages.items) }
+{
+    if let Some(page) = anchored_page_at(&table.states, &table.first, owner, place) {
+        return Some(page);
+    }
+    anchored_page_at(&table.states, &table.second, owner, place)
+}
+
 /// A replaced page of an owner that was current at the place.
 fn old_page_at(table: &Table, owner: Owner, place: u64) -> Option<u32>
-    requires { IsPageTable table.now }
+    requires table { IsPageTable table.now }
+    requires known { number_of owner < length table.now.states.items }
     ensures found { IfSome result (λ p. IsPageAt owner place table.now.states.items p) }
     ensures none { IfNone result (ShowedNone owner place table.now.states.items) }
 {
-    if let Some(page) = shown_in(&table.states, &table.loose, owner, place) {
+    if let Some(page) = anchored_at(table, owner, place) {
         return Some(page);
     }
-    if let Some(page) = shown_in(&table.states, &table.anchored, owner, place) {
+    if let Some(page) = shown_in(&table.states, &table.loose, owner, place) {
         return Some(page);
     }
     None

@@ -49,8 +49,12 @@ pub(crate) fn has_roots_page(table: &Table, pins: &[u64], roots: &[u64]) -> bool
     if in_loose {
         return true;
     }
-    let in_anchored = has_one_of(&table.states, &table.anchored, pins, roots);
-    if in_anchored {
+    let in_first = has_one_of(&table.states, &table.first.pages, pins, roots);
+    if in_first {
+        return true;
+    }
+    let in_second = has_one_of(&table.states, &table.second.pages, pins, roots);
+    if in_second {
         return true;
     }
     false

@@ -1,27 +1,62 @@
 //! Replaced pages that nobody needs become free.
-ghost use Rattle.std.specs.Prelude.{◌≡◌, ◌≤◌, ◌<◌, ◌+◌, length};
+ghost use Rattle.std.specs.Prelude.{◌≡◌, ◌≤◌, ◌<◌, ◌+◌, true, false, length};
 ghost use Rattle.page_states.specs.Effects.{is_gone, swept};
-ghost use Rattle.page_states.specs.Sound.{IsHeldAt, HasPageAt, without_index};
-ghost use Rattle.page_states.specs.Tables.{AreSweptAlike, IsLooseFreed, IsPageTable, NoneLooseFrom, loose_page};
+ghost use Rattle.page_states.specs.Sound.{HasPageAt, without_index};
+ghost use Rattle.page_states.specs.Tables.{AreSweptAlike, IsLooseFreed, IsPageTable, KeepsAnchors, NoneLooseFrom, loose_page};
 
-use crate::anchors::{is_held, settle_anchor};
+use crate::PageState;
+use crate::anchor::can_hold;
+use crate::anchors::{bring_forward, settle_anchors};
 use crate::numbers::{add, number_at, take_out};
 use crate::page_state::is_kept;
+use crate::slot::slot_of;
 use crate::table::{Table, make_free, state_at};
 
-/// The loose page at an index is anchored.
-fn hold_page(table: &mut Table, at: usize)
+/// The loose page at an index becomes the first anchor's, if it is current there and no other page of its owner is.
+fn hold_page(table: &mut Table, at: usize) -> bool
     requires table { IsPageTable table.old }
     requires inside { at < length table.old.loose.items }
-    requires held { IsHeldAt table.old.anchor table.old.states.items (loose_page table.old at) }
     ensures table { IsPageTable table.new }
     ensures states { table.new.states.items ≡ table.old.states.items }
-    ensures loose { table.new.loose.items ≡ without_index table.old.loose.items at }
-    ensures anchor { table.new.anchor ≡ table.old.anchor }
+    ensures held { result ≡ true → table.new.loose.items ≡ without_index table.old.loose.items at }
+    ensures other { result ≡ false → table.new.loose.items ≡ table.old.loose.items }
+    ensures anchors { KeepsAnchors table.old table.new }
 {
+    let Some(place) = table.first.place else {
+        return false;
+    };
     let page = number_at(&table.loose, at);
-    take_out(&mut table.loose, at);
-    add(&mut table.anchored, page);
+    let Some(
+        PageState::Live {
+            owner,
+            from: _,
+            to: _,
+        },
+    ) = state_at(&table.states, page)
+    else {
+        return false;
+    };
+    let can = can_hold(&table.states, &table.first.by_owner, owner, place, page);
+    if can {
+        take_out(&mut table.loose, at);
+        add(&mut table.first.pages, page);
+        table.first.by_owner[slot_of(owner)] = Some(page);
+    }
+    can
+}
+
+/// The loose page at an index becomes an anchor's, if it is current there and no other page of its owner is.
+fn hold_by_either(table: &mut Table, at: usize, state: PageState) -> bool
+    requires table { IsPageTable table.old }
+    requires inside { at < length table.old.loose.items }
+    ensures table { IsPageTable table.new }
+    ensures states { table.new.states.items ≡ table.old.states.items }
+    ensures held { result ≡ true → table.new.loose.items ≡ without_index table.old.loose.items at }
+    ensures other { result ≡ false → table.new.loose.items ≡ table.old.loose.items }
+    ensures anchors { KeepsAnchors table.old table.new }
+{
+    bring_forward(table, state);
+    hold_page(table, at)
 }
 
 /// The loose page at an index is free.
@@ -32,7 +67,7 @@ fn free_page(table: &mut Table, at: usize)
     ensures table { IsPageTable table.new }
     ensures states { IsLooseFreed table.old at table.new }
     ensures loose { table.new.loose.items ≡ without_index table.old.loose.items at }
-    ensures anchor { table.new.anchor ≡ table.old.anchor }
+    ensures anchors { KeepsAnchors table.old table.new }
 {
     let page = number_at(&table.loose, at);
     take_out(&mut table.loose, at);
@@ -40,7 +75,8 @@ fn free_page(table: &mut Table, at: usize)
     table.free += 1;
 }
 
-/// The loose page at an index is anchored if it is current at the anchor's place, and free if it is current at none of the places.
+/// The loose page at an index becomes an anchor's if it is current there, and free if it is current at none of the
+/// places.
 fn sweep_at(table: &mut Table, places: &[u64], at: usize)
     requires table { IsPageTable table.old }
     requires inside { at < length table.old.loose.items }
@@ -49,15 +85,14 @@ fn sweep_at(table: &mut Table, places: &[u64], at: usize)
     ensures states { AreSweptAlike places.now table.old table.new }
     ensures above { NoneLooseFrom (is_gone places.now) table.new at }
     ensures left { at ≤ length table.new.loose.items }
-    ensures anchor { table.new.anchor ≡ table.old.anchor }
+    ensures anchors { KeepsAnchors table.old table.new }
 {
     let page = number_at(&table.loose, at);
     let Some(state) = state_at(&table.states, page) else {
         return;
     };
-    let held = is_held(table.anchor, state);
+    let held = hold_by_either(table, at, state);
     if held {
-        hold_page(table, at);
         return;
     }
     let kept = is_kept(places, state);
@@ -73,7 +108,7 @@ pub(crate) fn sweep_all(table: &mut Table, places: &[u64])
     ensures table { IsPageTable table.new }
     ensures states { table.new.states.items ≡ swept places.now table.old.states.items }
 {
-    settle_anchor(table, places);
+    settle_anchors(table, places);
     let mut at = table.loose.len();
     while at > 0 {
         at -= 1;

@@ -28,7 +28,8 @@ fn renew(states: &mut PageStates, owner: Owner, at: u64) -> Option<u32>
     Some(pages[0])
 }
 
-/// A bucket is written at places 1, 2 and 3, and a part at place 1; the places are swept as a root at 1 and a pin at 2 come and go.
+/// A bucket is written at places 1, 2 and 3, and a part at place 1; the places are swept as a root at 1 and a pin at 2
+/// come and go.
 fn lives(states: &mut PageStates) -> [Option<u32>; 8]
     requires { length states.old ≡ MOST_PAGES }
 {

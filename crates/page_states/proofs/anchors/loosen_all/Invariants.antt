@@ -6,7 +6,8 @@ abbrev pub invariant-loop-table : goal.invariant-loop-table
 invariant-loop-table l = record {
   table : IsPageTable l.table;
   states : l.table.states.items ≡ l.fn.table.states.items;
+  second : l.table.second.place ≡ l.fn.table.second.place;
 }
 
 abbrev pub decreases-loop-table : goal.decreases-loop-table
-decreases-loop-table l = length l.table.anchored.items
+decreases-loop-table l = length l.table.first.pages.items
