@@ -12,8 +12,8 @@ use Rattle.page_states.specs.declared.page_state.PageState.TheVariants.{Free, Cl
 use Rattle.page_states.specs.declared.anchor.Anchor.{Anchor}
 use Rattle.page_states.specs.Counts.{times, once}
 use Rattle.page_states.specs.States.{is_current_at, is_kept, shows, slot}
-use Rattle.page_states.specs.Effects.{is_gone, IsPageAt, IsNotShown, NoneFrom}
-use Rattle.page_states.specs.Sound.{is_held, AreHeld, AreWritten, CanHold, ShowedNoneOf, IsAnchorAmong}
+use Rattle.page_states.specs.Effects.{is_gone, IsNotShown, NoneFrom}
+use Rattle.page_states.specs.Sound.{is_held, AreHeld, AreAtSlots, CanHold, ShowedNoneOf, IsAnchorAmong}
 use Rattle.page_states.specs.Tables.{IsAnchor, IsNewAnchor}
 use Rattle.page_states.proofs.Lists.{get_set, get_set_same, get_set_other}
 use Rattle.page_states.proofs.Counting.{once_other, taken_out}
@@ -46,7 +46,7 @@ held_stays place list states p y none old q x some has = elim (get_set states p 
   | inr w ↦ old q x some w.1
 ]
 
-written_stays : (by_owner : List (Option ℕ)) (list : List ℕ) (states : List PageState) (p : ℕ) (y : PageState) → times p list ≡ 0 → AreWritten by_owner list states → AreWritten by_owner list (slice_set states p y)
+written_stays : (by_owner : List (Option ℕ)) (list : List ℕ) (states : List PageState) (p : ℕ) (y : PageState) → times p list ≡ 0 → AreAtSlots by_owner list states → AreAtSlots by_owner list (slice_set states p y)
 written_stays by_owner list states p y none old q o from to some has = elim (get_set states p q y (Live o from to) has) [
   | inl w ↦
       let no : times q list ≡ 0 = ap (λ (k : ℕ). times k list) w.0 ∙ none in
@@ -93,7 +93,7 @@ held_more owner place states by_owner p list can old q x some has = elim (cases_
 
 -- and is written down
 pub written_more : (owner : Owner) (place : ℕ) (states : List PageState) (by_owner : List (Option ℕ)) (p : ℕ) (list : List ℕ) → CanHold owner place states by_owner p → AreHeld (Some place) list states
-    → AreWritten by_owner list states → AreWritten (slice_set by_owner (slot owner) (Some p)) (list ++ p ∷ []) states
+    → AreAtSlots by_owner list states → AreAtSlots (slice_set by_owner (slot owner) (Some p)) (list ++ p ∷ []) states
 written_more owner place states by_owner p list can held old q o from to some has = elim (cases_eq q p) [
   | inl e ↦
       let live = shown_live owner place can.shown.state can.shown.shown in
@@ -125,7 +125,7 @@ pub held_less : (place : Option ℕ) (list : List ℕ) (states : List PageState)
 held_less place list states i d inside old q x some has = old q x (in_less list i d q inside some) has
 
 -- and written down
-pub written_less : (by_owner : List (Option ℕ)) (list : List ℕ) (states : List PageState) (i d : ℕ) → i < length list → AreWritten by_owner list states → AreWritten by_owner (swap_remove list i d) states
+pub written_less : (by_owner : List (Option ℕ)) (list : List ℕ) (states : List PageState) (i d : ℕ) → i < length list → AreAtSlots by_owner list states → AreAtSlots by_owner (swap_remove list i d) states
 written_less by_owner list states i d inside old q o from to some has = old q o from to (in_less list i d q inside some) has
 
 -- what is read at an owner's slot is what is written down there
@@ -149,7 +149,7 @@ new_anchor states pages anchor long new = record {
     empty p = ap (times p) new.none
 
 -- where what is written down for an owner is not the owner's at a place, no page of the list is
-pub none_written : (owner : Owner) (place : ℕ) (states : List PageState) (by_owner : List (Option ℕ)) (list : List ℕ) → AreWritten by_owner list states
+pub none_written : (owner : Owner) (place : ℕ) (states : List PageState) (by_owner : List (Option ℕ)) (list : List ℕ) → AreAtSlots by_owner list states
     → ((q : ℕ) → slice_get by_owner (slot owner) ≡ Some (Some q) → IsNotShown owner place states q) → ShowedNoneOf owner place states list
 none_written owner place states by_owner list written none j x low within has = by (shows owner place x) refl
   where

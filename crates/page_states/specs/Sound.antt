@@ -56,8 +56,8 @@ abbrev pub AreHeld : Option ℕ → List ℕ → List PageState → Type 0
 AreHeld anchor list states = (p : ℕ) (x : PageState) → 0 < times p list → slice_get states p ≡ Some x → is_held anchor x ≡ true
 
 -- each page of the list is written down at its owner's slot
-abbrev pub AreWritten : List (Option ℕ) → List ℕ → List PageState → Type 0
-AreWritten by_owner list states = (p : ℕ) (o : Owner) (from : ℕ) (to : Option ℕ) → 0 < times p list → slice_get states p ≡ Some (Live o from to) → slice_get by_owner (slot o) ≡ Some (Some p)
+abbrev pub AreAtSlots : List (Option ℕ) → List ℕ → List PageState → Type 0
+AreAtSlots by_owner list states = (p : ℕ) (o : Owner) (from : ℕ) (to : Option ℕ) → 0 < times p list → slice_get states p ≡ Some (Live o from to) → slice_get by_owner (slot o) ≡ Some (Some p)
 
 -- there is a slot for the owner, and no page but this one is written down there that is the owner's at the place
 pub record HasRoomFor (owner : Owner) (place : ℕ) (states : List PageState) (by_owner : List (Option ℕ)) (p : ℕ) : Type 0 where

@@ -3,8 +3,8 @@ ghost use Rattle.std.specs.Prelude.{◌≡◌, ◌≤◌, ◌<◌, ◌*◌, ℕ,
 ghost use Rattle.page_states.specs.States.{is_current_at, number_of, shows};
 ghost use Rattle.grid_types.specs.declared.sizes.TheConstants.{MOST_PAGES};
 ghost use Rattle.page_states.specs.Effects.{IsPageAt, IsNotShown};
-ghost use Rattle.page_states.specs.Sound.{is_held, CanHold, HasRoomFor, ShowedNoneOf};
-ghost use Rattle.page_states.specs.Tables.{IsAnchor, IsNewAnchor};
+ghost use Rattle.page_states.specs.Sound.{is_held, CanHold, HasRoomFor};
+ghost use Rattle.page_states.specs.Tables.{AnchorShowsNone, IsAnchor, IsNewAnchor};
 
 use crate::PageState;
 use crate::page_state::{is_current_at, shows};
@@ -112,7 +112,7 @@ pub(crate) fn anchored_page_at(
     requires anchor { IsAnchor states.now.items anchor.now }
     requires known { number_of owner < length states.now.items }
     ensures found { IfSome result (λ p. IsPageAt owner place states.now.items p) }
-    ensures none { IfNone result (ShowedNoneOf owner place states.now.items anchor.now.pages.items) }
+    ensures none { IfNone result (AnchorShowsNone owner place states.now.items anchor.now) }
 {
     let Some(page) = anchor.by_owner[slot_of(owner)] else {
         return None;

@@ -3,8 +3,6 @@ ghost use Rattle.std.specs.Prelude.{◌≡◌, ◌<◌, ◌+◌, true, length};
 ghost use Rattle.page_states.specs.Sound.{IsAnchorAmong};
 ghost use Rattle.page_states.specs.Tables.{AreAnchorsAmong, IsPageTable, KeepsAnchors};
 
-use crate::PageState;
-use crate::anchor::is_held;
 use crate::numbers::{add, number_at, take_out};
 use crate::table::Table;
 use std::mem;
@@ -46,13 +44,14 @@ fn is_same(left: Option<u64>, right: Option<u64>) -> bool
 }
 
 /// The first anchor becomes the second one, and the second the first.
-fn swap_anchors(table: &mut Table)
+pub(crate) fn swap_anchors(table: &mut Table)
     requires { IsPageTable table.old }
     ensures table { IsPageTable table.new }
     ensures states { table.new.states.items ≡ table.old.states.items }
     ensures loose { table.new.loose.items ≡ table.old.loose.items }
     ensures first { table.new.first.place ≡ table.old.second.place }
     ensures second { table.new.second.place ≡ table.old.first.place }
+    ensures anchors { KeepsAnchors table.old table.new }
 {
     mem::swap(&mut table.first, &mut table.second);
 }
@@ -147,18 +146,4 @@ pub(crate) fn settle_anchors(table: &mut Table, places: &[u64])
     turn_anchors(table, first, second);
     move_first(table, first);
     move_second(table, second);
-}
-
-/// An anchor that holds the page comes first.
-pub(crate) fn bring_forward(table: &mut Table, state: PageState)
-    requires { IsPageTable table.old }
-    ensures table { IsPageTable table.new }
-    ensures states { table.new.states.items ≡ table.old.states.items }
-    ensures loose { table.new.loose.items ≡ table.old.loose.items }
-    ensures anchors { KeepsAnchors table.old table.new }
-{
-    let second = is_held(table.second.place, state);
-    if second {
-        swap_anchors(table);
-    }
 }

@@ -4,7 +4,8 @@ ghost use Rattle.page_states.specs.States.{is_current_at, shows, is_kept};
 
 use grid_types::Owner;
 
-/// A page has nothing, is claimed by a seat, or is its owner's from a place on, and up to another one if it was replaced.
+/// A page has nothing, is claimed by a seat, or is its owner's from a place on, and up to another one if it was
+/// replaced.
 #[derive(Clone, Copy, Debug)]
 pub enum PageState {
     Free,

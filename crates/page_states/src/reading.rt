@@ -6,7 +6,7 @@ ghost use Rattle.page_states.specs.declared.page_state.PageState.TheVariants.{Li
 ghost use Rattle.page_states.specs.States.{is_free, is_claimed_by, is_replaced, number_of, shows};
 ghost use Rattle.page_states.specs.Effects.{IsPageAt, ShowsNone, ShowedNone, BeganBeyond, NoneFrom};
 ghost use Rattle.page_states.specs.Sound.{ShowedNoneOf};
-ghost use Rattle.page_states.specs.Tables.{IsPageTable};
+ghost use Rattle.page_states.specs.Tables.{IsPageTable, NoneAnchoredAt};
 
 use crate::PageState;
 use crate::anchor::anchored_page_at;
@@ -44,7 +44,7 @@ fn newest_page_at(table: &Table, owner: Owner, place: u64) -> Option<u32>
 /// The page of these that is an owner's at the place. It begins with the last of them, which mostly was replaced last.
 fn shown_in(states: &Vec<PageState>, list: &Vec<u32>, owner: Owner, place: u64) -> Option<u32>
     ensures found { IfSome result (λ p. IsPageAt owner place states.now.items p) }
-    ensures none { IfNone result (NoneFrom (shows owner place) states.now.items list.now.items 0) }
+    ensures none { IfNone result (ShowedNoneOf owner place states.now.items list.now.items) }
 {
     let mut at = list.len();
     while at > 0 {
@@ -65,13 +65,15 @@ fn anchored_at(table: &Table, owner: Owner, place: u64) -> Option<u32>
     requires table { IsPageTable table.now }
     requires known { number_of owner < length table.now.states.items }
     ensures found { IfSome result (λ p. IsPageAt owner place table.now.states.items p) }
-    ensures first { IfNone result (ShowedNoneOf owner place table.now.states.items table.now.first.pages.items) }
-    ensures second { IfNone result (ShowedNoneOf owner place table.now.states.items table.now.second.pages.items) }
+    ensures none { IfNone result (NoneAnchoredAt owner place table.now) }
 {
     if let Some(page) = anchored_page_at(&table.states, &table.first, owner, place) {
         return Some(page);
     }
-    anchored_page_at(&table.states, &table.second, owner, place)
+    if let Some(page) = anchored_page_at(&table.states, &table.second, owner, place) {
+        return Some(page);
+    }
+    None
 }
 
 /// A replaced page of an owner that was current at the place.

@@ -97,9 +97,9 @@ impl PageStates {
         has_claims(&self.table, seat)
     }
 
-    /// The page in which an owner is found by whoever has this place pinned. One that is current is found at once, and so
-    /// is one that the first two places of the latest sweep keep. Of the others, those that were replaced last are looked
-    /// at first.
+    /// The page in which an owner is found by whoever has this place pinned. One that is current is found at once, and
+    /// so is one that was current at either of the first two places of the latest sweep. Of the others, those that were
+    /// replaced last are looked at first.
     pub fn page_at(&self, owner: Owner, place: u64) -> Option<u32>
         requires { number_of owner < length self.now }
         ensures found { IfSome result (λ p. IsPageAt owner place self.now p) }
@@ -108,9 +108,9 @@ impl PageStates {
         page_of(&self.table, owner, place)
     }
 
-    /// Frees what no kept place needs. The places that are kept longest, as those of the roots, are best told first: what
-    /// the first two places that differ keep is not looked at again as long as these are the first two, in either order.
-    /// When one of them no longer is, its pages are looked at once.
+    /// Frees what no kept place needs. The places that are kept longest, as those of the roots, are best told first:
+    /// what the first two different places keep is not looked at again as long as they are the first two, in either
+    /// order. When one of them no longer is, its pages are looked at once.
     pub fn sweep(&mut self, places: &[u64])
         ensures { self.new ≡ swept places.now self.old }
     {

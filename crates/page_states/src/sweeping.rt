@@ -5,15 +5,15 @@ ghost use Rattle.page_states.specs.Sound.{HasPageAt, without_index};
 ghost use Rattle.page_states.specs.Tables.{AreSweptAlike, IsLooseFreed, IsPageTable, KeepsAnchors, NoneLooseFrom, loose_page};
 
 use crate::PageState;
-use crate::anchor::can_hold;
-use crate::anchors::{bring_forward, settle_anchors};
+use crate::anchor::{can_hold, is_held};
+use crate::anchors::{settle_anchors, swap_anchors};
 use crate::numbers::{add, number_at, take_out};
 use crate::page_state::is_kept;
 use crate::slot::slot_of;
 use crate::table::{Table, make_free, state_at};
 
 /// The loose page at an index becomes the first anchor's, if it is current there and no other page of its owner is.
-fn hold_page(table: &mut Table, at: usize) -> bool
+fn hold_by_first(table: &mut Table, at: usize) -> bool
     requires table { IsPageTable table.old }
     requires inside { at < length table.old.loose.items }
     ensures table { IsPageTable table.new }
@@ -45,8 +45,8 @@ fn hold_page(table: &mut Table, at: usize) -> bool
     can
 }
 
-/// The loose page at an index becomes an anchor's, if it is current there and no other page of its owner is.
-fn hold_by_either(table: &mut Table, at: usize, state: PageState) -> bool
+/// The loose page at an index becomes the second anchor's, if it is current there and no other page of its owner is.
+fn hold_by_second(table: &mut Table, at: usize) -> bool
     requires table { IsPageTable table.old }
     requires inside { at < length table.old.loose.items }
     ensures table { IsPageTable table.new }
@@ -55,8 +55,31 @@ fn hold_by_either(table: &mut Table, at: usize, state: PageState) -> bool
     ensures other { result ≡ false → table.new.loose.items ≡ table.old.loose.items }
     ensures anchors { KeepsAnchors table.old table.new }
 {
-    bring_forward(table, state);
-    hold_page(table, at)
+    swap_anchors(table);
+    let held = hold_by_first(table, at);
+    swap_anchors(table);
+    held
+}
+
+/// The loose page at an index becomes the first anchor's if that one can have it, or else the second's if that one can.
+fn hold_page(table: &mut Table, at: usize, state: PageState) -> bool
+    requires table { IsPageTable table.old }
+    requires inside { at < length table.old.loose.items }
+    ensures table { IsPageTable table.new }
+    ensures states { table.new.states.items ≡ table.old.states.items }
+    ensures held { result ≡ true → table.new.loose.items ≡ without_index table.old.loose.items at }
+    ensures other { result ≡ false → table.new.loose.items ≡ table.old.loose.items }
+    ensures anchors { KeepsAnchors table.old table.new }
+{
+    let by_first = hold_by_first(table, at);
+    if by_first {
+        return true;
+    }
+    let by_second = is_held(table.second.place, state);
+    if by_second {
+        return hold_by_second(table, at);
+    }
+    false
 }
 
 /// The loose page at an index is free.
@@ -91,7 +114,7 @@ fn sweep_at(table: &mut Table, places: &[u64], at: usize)
     let Some(state) = state_at(&table.states, page) else {
         return;
     };
-    let held = hold_by_either(table, at, state);
+    let held = hold_page(table, at, state);
     if held {
         return;
     }

@@ -1,5 +1,4 @@
-use Rattle.std.proofs.Common.{◌≡◌, None, Some, ℕ, Option, ap, sym, subst, ◌∙◌}
-use Rattle.page_states.specs.Effects.{IsNotShown}
+use Rattle.std.proofs.Common.{◌≡◌, None, Some, sym, ◌∙◌}
 use Rattle.page_states.proofs.AnchoredPages.{none_written, written_is, written_same}
 use Rattle.page_states.proofs.anchor.anchored_page_at.Goals as goal
 

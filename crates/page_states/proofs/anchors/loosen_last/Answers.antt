@@ -1,8 +1,7 @@
 use Rattle.std.proofs.Common.{◌<◌, ◌-◌, ◌++◌, List, ℕ, refl, sym, ap, subst, ◌∙◌, arith, length}
 use Rattle.std.specs.Prelude.{slice_index}
 use Rattle.std.proofs.lemmas.List.{get_or_default}
-use Rattle.page_states.specs.Sound.{AreHeld, AreWritten}
-use Rattle.page_states.specs.Tables.{anchored}
+use Rattle.page_states.specs.Sound.{AreHeld, AreAtSlots}
 use Rattle.page_states.proofs.Olds.{olds_loosened, three_fit}
 use Rattle.page_states.proofs.AnchoredPages.{held_less, written_less}
 use Rattle.page_states.proofs.Keeping.{sound_olds, sound_same}
@@ -30,7 +29,7 @@ returns-clause-table c =
       sound = sound_same _ _ _ _ _ _ _ _ _ _ _ _ _ _ _ _ kept refl refl refl (ap (λ (l : List ℕ). l ++ b) pages) c.add.ensures.items refl refl refl;
       first = record {
         held = subst (λ (l : List ℕ). AreHeld t.first.place l t.states.items) (sym pages) (held_less t.first.place a t.states.items at d inside c.requires.table.first.held);
-        written = subst (λ (l : List ℕ). AreWritten t.first.by_owner.items l t.states.items) (sym pages) (written_less t.first.by_owner.items a t.states.items at d inside c.requires.table.first.written);
+        written = subst (λ (l : List ℕ). AreAtSlots t.first.by_owner.items l t.states.items) (sym pages) (written_less t.first.by_owner.items a t.states.items at d inside c.requires.table.first.written);
         slots = c.requires.table.first.slots;
         fit = omega (arith, c.requires.table.first.fit, c.take_out.ensures.capacity);
       };

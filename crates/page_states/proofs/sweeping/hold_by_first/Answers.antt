@@ -1,13 +1,11 @@
 use Rattle.std.proofs.Common.{ℕ, ◌++◌, ◌∷◌, [], Option, List, Some, refl, sym, ap, subst, ◌∙◌, arith}
 use Rattle.std.specs.Prelude.{slice_index, slice_set}
 use Rattle.std.proofs.lemmas.List.{get_or_default, length-set}
-use Rattle.page_states.specs.States.{slot}
-use Rattle.page_states.specs.Sound.{AreHeld, AreWritten}
-use Rattle.page_states.specs.Tables.{anchored}
+use Rattle.page_states.specs.Sound.{AreHeld, AreAtSlots}
 use Rattle.page_states.proofs.Olds.{olds_held, three_fit}
 use Rattle.page_states.proofs.AnchoredPages.{held_more, written_more}
 use Rattle.page_states.proofs.Keeping.{sound_olds, sound_same}
-use Rattle.page_states.proofs.sweeping.hold_page.Goals as goal
+use Rattle.page_states.proofs.sweeping.hold_by_first.Goals as goal
 
 pub add-requires : goal.add-requires
 add-requires c =
@@ -32,12 +30,12 @@ returns-then-can-clause-table c =
     let held = subst (λ (z : Option ℕ). AreHeld z a t.states.items) c.in-Some.is c.requires.table.first.held in
     let more = subst (λ (z : Option ℕ). AreHeld z (a ++ page ∷ []) t.states.items) (sym c.in-Some.is) (held_more owner place t.states.items by_owner page a can held) in
     let written = written_more owner place t.states.items by_owner page a can held c.requires.table.first.written in
-    let at_slot = subst (λ (k : ℕ). AreWritten (slice_set by_owner k (Some page)) (a ++ page ∷ []) t.states.items) (sym c.slot_of.ensures) written in
+    let at_slot = subst (λ (k : ℕ). AreAtSlots (slice_set by_owner k (Some page)) (a ++ page ∷ []) t.states.items) (sym c.slot_of.ensures) written in
     record {
       sound = sound_same _ _ _ _ _ _ _ _ _ _ _ _ _ _ _ _ kept refl refl refl (ap (λ (l : List ℕ). l ++ b) pages) c.take_out.ensures.items refl refl refl;
       first = record {
         held = subst (λ (l : List ℕ). AreHeld t.first.place l t.states.items) (sym pages) more;
-        written = subst (λ (l : List ℕ). AreWritten (slice_set by_owner c.slot_of.result (Some page)) l t.states.items) (sym pages) at_slot;
+        written = subst (λ (l : List ℕ). AreAtSlots (slice_set by_owner c.slot_of.result (Some page)) l t.states.items) (sym pages) at_slot;
         slots = length-set by_owner c.slot_of.result (Some page) ∙ c.requires.table.first.slots;
         fit = omega (arith, c.requires.table.first.fit, c.add.ensures.capacity);
       };
