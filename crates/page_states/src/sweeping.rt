@@ -61,7 +61,7 @@ fn hold_by_second(table: &mut Table, at: usize) -> bool
     held
 }
 
-/// The loose page at an index becomes the first anchor's if that one can have it, or else the second's if that one can.
+/// The loose page at an index becomes an anchor's, if it is current there and no other page of its owner is.
 fn hold_page(table: &mut Table, at: usize, state: PageState) -> bool
     requires table { IsPageTable table.old }
     requires inside { at < length table.old.loose.items }
@@ -71,9 +71,9 @@ fn hold_page(table: &mut Table, at: usize, state: PageState) -> bool
     ensures other { result ≡ false → table.new.loose.items ≡ table.old.loose.items }
     ensures anchors { KeepsAnchors table.old table.new }
 {
-    let by_first = hold_by_first(table, at);
+    let by_first = is_held(table.first.place, state);
     if by_first {
-        return true;
+        return hold_by_first(table, at);
     }
     let by_second = is_held(table.second.place, state);
     if by_second {
