@@ -46,7 +46,7 @@ pub record IsLeastFree (states : List PageState) (p : ℕ) : Type 0 where
 abbrev pub AreNewest : List PageState → List (Option ℕ) → Type 0
 AreNewest states newest = (p : ℕ) (o : Owner) (from : ℕ) → slice_get states p ≡ Some (Live o from None) → slice_get newest (slot o) ≡ Some (Some p)
 
--- a page is held by the anchor: there is one, and the page is current at its place
+-- a page is held by an anchor: it has a place, and the page is current there
 abbrev pub is_held : Option ℕ → PageState → Bool
 is_held None x = false
 is_held (Some place) x = is_current_at place x
@@ -73,7 +73,7 @@ pub record CanHold (owner : Owner) (place : ℕ) (states : List PageState) (by_o
 abbrev pub ShowedNoneOf : Owner → ℕ → List PageState → List ℕ → Type 0
 ShowedNoneOf owner place states list = NoneFrom (shows owner place) states list 0
 
--- where there is an anchor, its place is one of these
+-- where the anchor has a place, it is one of these
 abbrev pub IsAnchorAmong : List ℕ → Option ℕ → Type 0
 IsAnchorAmong places anchor = IfSome anchor (λ place. Contains places place)
 

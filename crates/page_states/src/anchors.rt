@@ -1,4 +1,4 @@
-//! The two anchors of a table, in no order: the first two places of the latest sweep.
+//! The two anchors of a table: the first two different places of the latest sweep.
 ghost use Rattle.std.specs.Prelude.{◌≡◌, ◌<◌, ◌+◌, true, length};
 ghost use Rattle.page_states.specs.Sound.{IsAnchorAmong};
 ghost use Rattle.page_states.specs.Tables.{AreAnchorsAmong, IsPageTable, KeepsAnchors};
@@ -30,7 +30,7 @@ fn other_than(first: Option<u64>, places: &[u64]) -> Option<u64>
     None
 }
 
-/// Whether two anchors have the same place, or both none.
+/// Whether two places are the same, or both are missing.
 fn is_same(left: Option<u64>, right: Option<u64>) -> bool
     ensures { result ≡ true → left ≡ right }
 {
@@ -134,7 +134,7 @@ fn turn_anchors(table: &mut Table, first: Option<u64>, second: Option<u64>)
     }
 }
 
-/// The anchors are at the first two of the places from now on. One that was at either of them stays there.
+/// The anchors are at the first two different places from now on. One that was at either of them stays there.
 pub(crate) fn settle_anchors(table: &mut Table, places: &[u64])
     requires { IsPageTable table.old }
     ensures table { IsPageTable table.new }

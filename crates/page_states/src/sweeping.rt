@@ -12,7 +12,8 @@ use crate::page_state::is_kept;
 use crate::slot::slot_of;
 use crate::table::{Table, make_free, state_at};
 
-/// The loose page at an index becomes the first anchor's, if it is current there and no other page of its owner is.
+/// The loose page at an index becomes the first anchor's, if it is current there and no other page of its owner is. One
+/// that cannot be written down stays loose, which costs time alone.
 fn hold_by_first(table: &mut Table, at: usize) -> bool
     requires table { IsPageTable table.old }
     requires inside { at < length table.old.loose.items }
