@@ -79,5 +79,9 @@ claims_keep seat place (q ∷ pages) states each content bytes served =
       | inr e ↦ (was.0, e, was.2)
     ]
 
+-- the claim of one free page keeps each place
+pub free_claim_keeps : (seat p place : ℕ) (states : List PageState) → slice_get states p ≡ Some Free → Keeps place states (slice_set states p (Claimed seat))
+free_claim_keeps seat p place states free = same_keeps place states (slice_set states p (Claimed seat)) (λ o r. set_same (shows o place) states p Free (Claimed seat) r free refl)
+
 pub claim_keeps_places : ClaimKeeps
 claim_keeps_places seat count place states = claims_keep seat place (take count (free_pages states)) states (λ j low. (Free, taken_free count j states low, λ o k. refl))

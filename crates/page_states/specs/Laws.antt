@@ -75,6 +75,11 @@ abbrev pub PublicationServes : Type 0
 PublicationServes = (content : Owner → Option (List ℕ)) (bytes : ℕ → List ℕ) (page seat at : ℕ) (owner : Owner) (states : List PageState) → slice_get states page ≡ Some (Claimed seat) → Settled at states
     → Serves content bytes at states → Serves (with_content content owner (Some (bytes page))) bytes at (with_newest page owner at states)
 
+-- so does a free page that begins to be an owner's, as one that a root names when its file is opened
+abbrev pub BeginningServes : Type 0
+BeginningServes = (content : Owner → Option (List ℕ)) (bytes : ℕ → List ℕ) (page at : ℕ) (owner : Owner) (states : List PageState) → slice_get states page ≡ Some Free → Settled at states
+    → Serves content bytes at states → Serves (with_content content owner (Some (bytes page))) bytes at (with_newest page owner at states)
+
 -- an owner that vanishes is served no more from its place on, and each other owner as before
 abbrev pub VanishingServes : Type 0
 VanishingServes = (content : Owner → Option (List ℕ)) (bytes : ℕ → List ℕ) (at : ℕ) (owner : Owner) (states : List PageState) → Settled at states → Serves content bytes at states

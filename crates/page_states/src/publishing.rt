@@ -1,11 +1,12 @@
 //! A claimed page becomes its owner's current one.
 ghost use Rattle.std.specs.Prelude.{◌≡◌, ◌<◌, ◌*◌, ℕ, length, map, Some, None, IfSome, IfNone, slice_get, slice_set};
-ghost use Rattle.page_states.specs.declared.page_state.PageState.TheVariants.{Claimed, Live};
+ghost use Rattle.page_states.specs.declared.page_state.PageState.TheVariants.{Free, Claimed, Live};
 ghost use Rattle.page_states.specs.States.{number_of};
 ghost use Rattle.page_states.specs.Effects.{with_current, vanished, with_newest, IsClaimed, IsCurrentFrom, HasNoPage};
 ghost use Rattle.page_states.specs.Tables.{IsPageTable};
 
 use crate::PageState;
+use crate::claiming::claim_page;
 use crate::numbers::{add, index_of, take_out};
 use crate::slot::slot_of;
 use crate::table::Table;
@@ -85,4 +86,16 @@ pub(crate) fn publish_page(table: &mut Table, page: u32, owner: Owner, at: u64)
 {
     end_page(table, owner, at);
     begin_page(table, page, owner, at);
+}
+
+/// A free page becomes the owner's current one, and the owner's page of before, if there is one, is replaced.
+pub(crate) fn begin_free_page(table: &mut Table, page: u32, owner: Owner, at: u64)
+    requires table { IsPageTable table.old }
+    requires known { number_of owner < length table.old.states.items }
+    requires free { slice_get table.old.states.items page ≡ Some Free }
+    ensures table { IsPageTable table.new }
+    ensures states { table.new.states.items ≡ with_newest page owner at table.old.states.items }
+{
+    claim_page(table, 0, page);
+    publish_page(table, page, owner, at);
 }

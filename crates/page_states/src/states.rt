@@ -12,7 +12,7 @@ ghost use Rattle.page_states.specs.Effects.{free_pages, claim_all, with_newest, 
 use crate::claiming::claim_lowest;
 use crate::current::{tell_buckets, tell_parts};
 use crate::freeing::give_back_all;
-use crate::publishing::{end_page, publish_page};
+use crate::publishing::{begin_free_page, end_page, publish_page};
 use crate::reading::{free_count, has_claims, page_of};
 use crate::roots::has_roots_page;
 use crate::sweeping::sweep_all;
@@ -73,6 +73,15 @@ impl PageStates {
         ensures { self.new ≡ with_newest page owner at self.old }
     {
         publish_page(&mut self.table, page, owner, at);
+    }
+
+    /// A free page is an owner's from a place on, as the root of a file that is opened says it.
+    pub fn begin(&mut self, page: u32, owner: Owner, at: u64)
+        requires known { number_of owner < length self.old }
+        requires free { slice_get self.old page ≡ Some Free }
+        ensures { self.new ≡ with_newest page owner at self.old }
+    {
+        begin_free_page(&mut self.table, page, owner, at);
     }
 
     /// An owner is no more, as a bucket that was merged into another one.
