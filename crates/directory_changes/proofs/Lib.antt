@@ -1,0 +1,9 @@
+pub mod Truths
+pub mod Least
+pub mod Walked
+pub mod Among
+pub mod Growing
+pub mod Counted
+pub mod Lawful
+pub mod Renewed
+pub mod Made
