@@ -60,11 +60,7 @@ fn least_with(
 }
 
 /// The least index from this one on that has a cell of the box.
-fn least_from<const K: usize>(
-    intervals: &[u32; K],
-    cells: &CellBox<K>,
-    from: u32,
-) -> Option<u32>
+fn least_from<const K: usize>(intervals: &[u32; K], cells: &CellBox<K>, from: u32) -> Option<u32>
     requires lawful { IsDims intervals.now }
     requires corners { HasCorners intervals.now cells.now }
     requires upright { IsUpright cells.now }

@@ -7,7 +7,10 @@ pub enum DirectoryChange<const K: usize> {
     /// Nothing.
     Nothing,
     /// The cells of a box get another bucket.
-    Patch { cells: CellBox<K>, bucket: u32 },
+    Patch {
+        cells: CellBox<K>,
+        bucket: u32,
+    },
     /// An interval of an attribute is split in two, and of the refined directory the cells of a box get another bucket.
     Grow {
         attribute: u8,

@@ -12,7 +12,7 @@ pub use change::DirectoryChange;
 pub use counting::{count_changed_parts, need};
 pub use laws::directory_law;
 pub use making::{change_of_cut, change_of_merge};
-pub use parts::next_changed_part;
+pub use parts::{is_changed, next_changed_part, parts_after};
 
 #[cfg(test)]
 mod tests;

@@ -44,11 +44,7 @@ pub fn parts_after<const K: usize>(dims: &Dims<K>, change: &DirectoryChange<K>) 
 }
 
 /// Whether a change renews the part.
-pub fn is_changed<const K: usize>(
-    dims: &Dims<K>,
-    change: &DirectoryChange<K>,
-    part: u32,
-) -> bool
+pub fn is_changed<const K: usize>(dims: &Dims<K>, change: &DirectoryChange<K>, part: u32) -> bool
     requires change { IsChangeOf dims.now.intervals change.now }
     requires inside { part < parts_after dims.now.intervals change.now }
     ensures { result ≡ is_among (parts_changed dims.now.intervals change.now) part }

@@ -1,7 +1,4 @@
-ghost use Rattle.std.specs.Prelude.{◌≤◌};
-ghost use Rattle.grid_model.specs.Lists.{product};
-ghost use Rattle.grid_model.specs.ScaleLaws.{IsCell};
-ghost use Rattle.directory_changes.specs.Changes.{HasCorners, IsChangeOf};
+ghost use Rattle.directory_changes.specs.Changes.{IsChangeOf};
 
 use super::*;
 use directory_pages::next_part;
@@ -11,16 +8,16 @@ use linear_scales::Scales;
 use std::test::*;
 
 /// Whether the parts that the patch of a box renews are those that hold a cell of it, as a walk over the cells finds them.
-fn is_walked<const K: usize>(dims: &Dims<K>, cells: &CellBox<K>) -> bool
-    requires { HasCorners dims.now.intervals cells.now }
+fn is_walked<const K: usize>(
+    dims: &Dims<K>,
+    cells: &CellBox<K>,
+    change: &DirectoryChange<K>,
+) -> bool
+    requires { IsChangeOf dims.now.intervals change.now }
 {
-    let change = DirectoryChange::Patch {
-        cells: *cells,
-        bucket: 7,
-    };
     let mut count = 0;
     for part in 0..1001 {
-        let next = next_changed_part(dims, &change, part);
+        let next = next_changed_part(dims, change, part);
         if next != next_part(dims, cells, part) {
             return false;
         }
@@ -28,7 +25,7 @@ fn is_walked<const K: usize>(dims: &Dims<K>, cells: &CellBox<K>) -> bool
             count += 1;
         }
     }
-    count == count_changed_parts(dims, &change) && need(1, dims, &change, true) == count + 2
+    count == count_changed_parts(dims, change) && need(1, dims, change, true) == count + 2
 }
 
 #[test]
@@ -36,18 +33,63 @@ fn is_walked<const K: usize>(dims: &Dims<K>, cells: &CellBox<K>) -> bool
 fn parts_of_boxes_are_found(rt: HostRuntime) -> Result<(), Fail> {
     let intervals = [2500];
     let (lo, hi) = ([999], [1000]);
-    assert!(rt; is_walked(&Dims { intervals }, &CellBox { lo, hi }));
+    assert!(rt;
+        is_walked(
+            &Dims { intervals },
+            &CellBox { lo, hi },
+            &DirectoryChange::Patch {
+                cells: CellBox { lo, hi },
+                bucket: 7
+            }
+        )
+    );
     let intervals = [50, 50];
     let (lo, hi) = ([39, 49], [45, 49]);
-    assert!(rt; is_walked(&Dims { intervals }, &CellBox { lo, hi }));
+    assert!(rt;
+        is_walked(
+            &Dims { intervals },
+            &CellBox { lo, hi },
+            &DirectoryChange::Patch {
+                cells: CellBox { lo, hi },
+                bucket: 7
+            }
+        )
+    );
     let (lo, hi) = ([39, 49], [45, 3]);
-    assert!(rt; is_walked(&Dims { intervals }, &CellBox { lo, hi }));
+    assert!(rt;
+        is_walked(
+            &Dims { intervals },
+            &CellBox { lo, hi },
+            &DirectoryChange::Patch {
+                cells: CellBox { lo, hi },
+                bucket: 7
+            }
+        )
+    );
     let intervals = [5, 30, 40];
     let (lo, hi) = ([1, 7, 20], [3, 9, 20]);
-    assert!(rt; is_walked(&Dims { intervals }, &CellBox { lo, hi }));
+    assert!(rt;
+        is_walked(
+            &Dims { intervals },
+            &CellBox { lo, hi },
+            &DirectoryChange::Patch {
+                cells: CellBox { lo, hi },
+                bucket: 7
+            }
+        )
+    );
     let intervals = [7, 8, 9, 10];
     let (lo, hi) = ([2, 0, 8, 9], [5, 0, 8, 9]);
-    assert!(rt; is_walked(&Dims { intervals }, &CellBox { lo, hi }));
+    assert!(rt;
+        is_walked(
+            &Dims { intervals },
+            &CellBox { lo, hi },
+            &DirectoryChange::Patch {
+                cells: CellBox { lo, hi },
+                bucket: 7
+            }
+        )
+    );
     Ok(())
 }
 
@@ -75,7 +117,12 @@ fn cuts_and_merges_change_the_directory(rt: HostRuntime) -> Result<(), Fail> {
     let cells = CellBox { lo, hi };
     assert_eq!(rt;
         change_of_cut(&before, &after, &region, fresh, 4),
-        DirectoryChange::Grow { attribute, interval: 0, cells, bucket: 4 }
+        DirectoryChange::Grow {
+            attribute,
+            interval: 0,
+            cells,
+            bucket: 4
+        }
     );
     let old = Cut {
         attribute,
