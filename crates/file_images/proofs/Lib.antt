@@ -6,4 +6,17 @@ pub mod Named
 pub mod Standing
 pub mod Undamaged
 pub mod Staying
+pub mod Elements
+pub mod Chains
+pub mod Halves
+pub mod PagesApart
+pub mod Frames
+pub mod Committing
+pub mod Clearing
+pub mod RootSteps
+pub mod Newest
+pub mod Resolving
+pub mod Found
+pub mod Histories
+pub mod Meanings
 mod Rows

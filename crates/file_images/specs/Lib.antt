@@ -1,3 +1,10 @@
 pub mod Laws
 pub mod Free
 pub mod Damages
+pub mod Kept
+pub mod Shows
+pub mod Meets
+pub mod Steps
+pub mod Apart
+pub mod Leads
+pub mod KeptLaws

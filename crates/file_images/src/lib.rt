@@ -1,6 +1,8 @@
-//! What an image of a file stands for: laws on whole images, above the crates of its pages.
+//! What an image of a file stands for, and what a file keeps: laws on whole images, above the crates of its pages.
 #![tactic(auto)]
 
+mod kept_laws;
 mod laws;
 
+pub use kept_laws::{apart_law, clearing_law, commit_law, doubt_law, meaning_law, root_law};
 pub use laws::{damage_law, free_page_law, image_law};

@@ -1,0 +1,189 @@
+-- What each step of the journal, and each root, leaves of where what is kept leads.
+use Rattle.std.proofs.Common.{◌≡◌, ◌≢◌, ◌<◌, ◌≤◌, ◌⊎◌, inl, inr, ◌+◌, ◌++◌, ℕ, Bool, true, false, List, [], ◌∷◌, length, refl, sym, ap, subst, ◌∙◌, arith, true≢false}
+use Rattle.std.specs.Prelude.{slice_get, Option, Some, fold, Contains}
+use Rattle.std.proofs.lemmas.Bool.{cases_eq}
+use Rattle.std.proofs.lemmas.List.{append-nil}
+use Rattle.std.proofs.lemmas.List.Sums.{fold-append}
+use Rattle.std.proofs.lemmas.Grind.{flat_map-append}
+use Rattle.grid_types.specs.declared.layout_change.LoggedUpdate.{LoggedUpdate}
+use Rattle.grid_model.specs.Tables.{Table}
+use Rattle.grid_model.specs.Layouts.{Layout}
+use Rattle.grid_model.specs.Spellings.{LoggedBatch}
+use Rattle.grid_model.specs.Images.{logged_effect, layout_after}
+use Rattle.grid_model.specs.Roots.{WholeRoot}
+use Rattle.file_images.specs.Kept.{GateRule, Counting, Barred, PlacedBatch, NextSlot, Shut, Flying, InDoubt, Kept, OtherHeader, LooseHeader, MayBeNewest, on_half, used}
+use Rattle.file_images.specs.Steps.{ruled, with_placed, with_slot, with_barred, with_next_shut, with_tried, with_root, with_turned}
+use Rattle.file_images.specs.Leads.{Meaning, behind, updates_in, RootHolds, CountsOn, reach, IsKnown, MayFollow, RootLeads, Leads}
+use Rattle.file_images.proofs.Halves.{half_added, half_kept, get_added, get_left, get_last}
+use Rattle.file_images.proofs.Elements.{Among, here, there, among_left, among_right, from_append, among_these, contains_it}
+use Rattle.file_images.proofs.Chains.{chain_more}
+
+-- what is kept, with other roots, other batches and another half
+abbrev pub kept_with : {K : ℕ} → Kept K → WholeRoot → OtherHeader → List (PlacedBatch K) → List (PlacedBatch K) → ℕ → NextSlot K → Kept K
+kept_with k root other a b h n = record k { root = root; other = other; first = a; second = b; half = h; next = n }
+
+-- what a root's pages hold does not speak of these
+pub holds_over : {K : ℕ} (k : Kept K) (root : WholeRoot) (other : OtherHeader) (a b : List (PlacedBatch K)) (h : ℕ) (n : NextSlot K) (w : WholeRoot) (L : Layout K) (t : Table) → RootHolds k w L t → RootHolds (kept_with k root other a b h n) w L t
+holds_over k root other a b h n w L t is = record {
+  scales = is.scales;
+  directory = is.directory;
+  numbers = is.numbers;
+  stands = is.stands;
+  records = is.records;
+  pages = is.pages;
+}
+
+pub follows_over : {K : ℕ} (k : Kept K) (root : WholeRoot) (other : OtherHeader) (a b : List (PlacedBatch K)) (h : ℕ) (n : NextSlot K) (w : WholeRoot) (L : Layout K) (t : Table) (taken : List (LoggedBatch K)) (place : ℕ) (d : LoggedBatch K)
+    → MayFollow k w L t taken place d → MayFollow (kept_with k root other a b h n) w L t taken place d
+follows_over k root other a b h n w L t taken place d is = record { session = is.session; first = is.first; may = is.may }
+
+reach_up : {K : ℕ} (n : NextSlot K) (place : ℕ) → place ≤ reach n place
+reach_up Shut place = omega arith
+reach_up Flying place = omega arith
+reach_up (InDoubt b) place = omega arith
+
+known_nearer : {K : ℕ} (from : ℕ) (taken more : List (LoggedBatch K)) (far near : ℕ) (p : PlacedBatch K) → near ≤ far → ((b : LoggedBatch K) → Contains taken b → Contains more b) → IsKnown from taken far p → IsKnown from more near p
+known_nearer from taken more far near p le wider (inl barred) = inl barred
+known_nearer from taken more far near p le wider (inr (inl low)) = inr (inl low)
+known_nearer from taken more far near p le wider (inr (inr (inl m))) = inr (inr (inl (wider p.batch m)))
+known_nearer from taken more far near p le wider (inr (inr (inr beyond))) = inr (inr (inr (omega (arith, beyond, le))))
+
+abbrev is_in_doubt : {K : ℕ} → NextSlot K → Bool
+is_in_doubt Shut = false
+is_in_doubt Flying = false
+is_in_doubt (InDoubt b) = true
+
+pub shut_no_doubt : {K : ℕ} {A : Type 0} (d : LoggedBatch K) → Shut ≡ InDoubt d → A
+shut_no_doubt d e = absurd (true≢false (sym (ap is_in_doubt e)))
+
+module _ {K : ℕ} (k : Kept K) (w : WholeRoot) (m : Meaning K) (c : RootLeads k w m) where
+  -- where nothing is on the next slot
+  pub leads_shut : RootLeads (with_next_shut k) w m
+  leads_shut = record {
+    layout = c.layout;
+    table = c.table;
+    holds = holds_over k k.root k.other k.first k.second k.half Shut w c.layout c.table c.holds;
+    taken = c.taken;
+    chain = c.chain;
+    there = λ b on. let at = c.there b on in (at.0, record { half = at.1.half; slot = at.1.slot; two = at.1.two; there = at.1.there });
+    known = λ h i p two is mine. known_nearer w.fields.front c.taken c.taken (reach k.next m.place) m.place p (reach_up k.next m.place) (λ b on. on) (c.known h i p two is mine);
+    sessions = c.sessions;
+    makes_table = c.makes_table;
+    makes_layout = c.makes_layout;
+    may = c.may;
+    doubt = λ d is. shut_no_doubt d is;
+  }
+
+  -- where other roots are kept, as one that was tried
+  pub leads_over : (root : WholeRoot) (other : OtherHeader) (h : ℕ) → RootLeads (kept_with k root other k.first k.second h k.next) w m
+  leads_over root other h = record {
+    layout = c.layout;
+    table = c.table;
+    holds = holds_over k root other k.first k.second h k.next w c.layout c.table c.holds;
+    taken = c.taken;
+    chain = c.chain;
+    there = λ b on. let at = c.there b on in (at.0, record { half = at.1.half; slot = at.1.slot; two = at.1.two; there = at.1.there });
+    known = c.known;
+    sessions = c.sessions;
+    makes_table = c.makes_table;
+    makes_layout = c.makes_layout;
+    may = c.may;
+    doubt = λ d is. follows_over k root other k.first k.second h k.next w c.layout c.table c.taken m.place d (c.doubt d is);
+  }
+
+  module _ (d : LoggedBatch K) (is : k.next ≡ InDoubt d) (half_two : k.half < 2) (rule : GateRule) where
+    abbrev p : PlacedBatch K
+    p = ruled d rule
+
+    abbrev k2 : Kept K
+    k2 = with_placed k p
+
+    here_is : on_half k2 k.half ≡ on_half k k.half ++ p ∷ []
+    here_is = half_added p k.first k.second k.half
+
+    kept_is : (h : ℕ) → h < 2 → h ≢ k.half → on_half k2 h ≡ on_half k h
+    kept_is h two apart = half_kept p k.first k.second h k.half two half_two apart
+
+    same_half : (h : ℕ) → h ≡ k.half → on_half k2 h ≡ on_half k h ++ p ∷ []
+    same_half h same = subst (λ (j : ℕ). on_half k2 j ≡ on_half k j ++ p ∷ []) (sym same) here_is
+
+    old_or_new : (h i : ℕ) (q : PlacedBatch K) → h < 2 → slice_get (on_half k2 h) i ≡ Some q → (slice_get (on_half k h) i ≡ Some q) ⊎ (q ≡ p)
+    old_or_new h i q two at = elim (cases_eq h k.half) [
+      | inl same ↦ elim (get_added (on_half k h) p q i (subst (λ (xs : List (PlacedBatch K)). slice_get xs i ≡ Some q) (same_half h same) at)) [ inl old ↦ inl old | inr new ↦ inr new.1 ]
+      | inr other ↦ inl (subst (λ (xs : List (PlacedBatch K)). slice_get xs i ≡ Some q) (kept_is h two other) at)
+    ]
+
+    still_there : (h i : ℕ) (q : PlacedBatch K) → h < 2 → slice_get (on_half k h) i ≡ Some q → slice_get (on_half k2 h) i ≡ Some q
+    still_there h i q two at = elim (cases_eq h k.half) [
+      | inl same ↦ subst (λ (xs : List (PlacedBatch K)). slice_get xs i ≡ Some q) (sym (same_half h same)) (get_left (on_half k h) p q i at)
+      | inr other ↦ subst (λ (xs : List (PlacedBatch K)). slice_get xs i ≡ Some q) (sym (kept_is h two other)) at
+    ]
+
+    counts_still : (b : LoggedBatch K) → CountsOn k b → CountsOn k2 b
+    counts_still b on = record { half = on.half; slot = on.slot; two = on.two; there = still_there on.half on.slot (ruled b Counting) on.two on.there }
+
+    far_is : reach k.next m.place ≡ m.place + length d.updates
+    far_is = ap (λ (n : NextSlot K). reach n m.place) is
+
+    sessions_still : (h i : ℕ) (q : PlacedBatch K) → h < 2 → slice_get (on_half k2 h) i ≡ Some q → q.batch.session ≤ w.fields.session
+    sessions_still h i q two at = elim (old_or_new h i q two at) [
+      | inl old ↦ c.sessions h i q two old
+      | inr new ↦ omega (arith, ap (λ (x : PlacedBatch K). x.batch.session) new, (c.doubt d is).session)
+    ]
+
+    -- a batch that was in doubt and is barred changes nothing
+    pub leads_barred : rule ≡ Barred → RootLeads k2 w m
+    leads_barred barred = record {
+      layout = c.layout;
+      table = c.table;
+      holds = holds_over k k.root k.other k2.first k2.second k.half Shut w c.layout c.table c.holds;
+      taken = c.taken;
+      chain = c.chain;
+      there = λ b on. let at = c.there b on in (at.0, counts_still b at.1);
+      known = λ h i q two at mine. elim (old_or_new h i q two at) [
+        | inl old ↦ known_nearer w.fields.front c.taken c.taken (reach k.next m.place) m.place q (reach_up k.next m.place) (λ b on. on) (c.known h i q two old mine)
+        | inr new ↦ inl (ap (λ (x : PlacedBatch K). x.gate) new ∙ barred)
+      ];
+      sessions = sessions_still;
+      makes_table = c.makes_table;
+      makes_layout = c.makes_layout;
+      may = c.may;
+      doubt = λ e eq. shut_no_doubt e eq;
+    }
+
+    abbrev more : List (LoggedBatch K)
+    more = c.taken ++ d ∷ []
+
+    updates_more : updates_in more ≡ updates_in c.taken ++ d.updates
+    updates_more = flat_map-append (λ (b : LoggedBatch K). b.updates) c.taken (d ∷ []) ∙ ap (λ (us : List (LoggedUpdate K)). updates_in c.taken ++ us) (append-nil d.updates)
+
+    -- a batch that was in doubt and counts takes the place behind it
+    pub leads_placed : 0 < length d.updates → rule ≡ Counting → RootLeads k2 w (behind m d)
+    unfolding layout_after
+    leads_placed some counting_is =
+        let follows = c.doubt d is in
+        record {
+          layout = c.layout;
+          table = c.table;
+          holds = holds_over k k.root k.other k2.first k2.second k.half Shut w c.layout c.table c.holds;
+          taken = more;
+          chain = chain_more w.fields.front m.place c.taken d c.chain follows.first some;
+          there = λ b on. elim (from_append b c.taken (d ∷ []) (among_these b more on)) [
+            | inl old ↦ let at = c.there b (contains_it b c.taken old) in (at.0, counts_still b at.1)
+            | inr new ↦ last_there b new follows.session counting_is
+          ];
+          known = λ h i q two at mine. elim (old_or_new h i q two at) [
+            | inl old ↦ known_nearer w.fields.front c.taken more (reach k.next m.place) (m.place + length d.updates) q (omega (arith, far_is)) (λ b on. contains_it b more (among_left b c.taken (d ∷ []) (among_these b c.taken on))) (c.known h i q two old mine)
+            | inr new ↦ inr (inr (inl (subst (λ (x : PlacedBatch K). Contains more x.batch) (sym new) (contains_it d more (among_right d c.taken (d ∷ []) here)))))
+          ];
+          sessions = sessions_still;
+          makes_table = ap (λ (u : Table). fold logged_effect u d.updates) c.makes_table ∙ sym (fold-append logged_effect c.table (updates_in c.taken) d.updates) ∙ ap (fold logged_effect c.table) (sym updates_more);
+          makes_layout = ap (λ (u : Layout K). layout_after u d.updates) c.makes_layout ∙ sym (fold-append _ c.layout (updates_in c.taken) d.updates) ∙ ap (layout_after c.layout) (sym updates_more);
+          may = follows.may;
+          doubt = λ e eq. shut_no_doubt e eq;
+        }
+      where
+        last_there : (b : LoggedBatch K) → Among b (d ∷ []) → d.session ≡ w.fields.session → rule ≡ Counting → (b.session ≡ w.fields.session) × CountsOn k2 b
+        last_there _ here session gate =
+            (session, record { half = k.half; slot = used k k.half; two = half_two; there = subst (λ (xs : List (PlacedBatch K)). slice_get xs (used k k.half) ≡ Some (ruled d Counting)) (sym here_is) (subst (λ (r : GateRule). slice_get (on_half k k.half ++ p ∷ []) (used k k.half) ≡ Some (ruled d r)) gate (get_last (on_half k k.half) p)) })
+        last_there b (there on) session gate = elim on [ ]

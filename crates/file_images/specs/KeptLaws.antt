@@ -1,0 +1,45 @@
+-- What is promised of all that a file keeps, over plain images.
+use Rattle.std.specs.Prelude.{◌≡◌, ◌≢◌, ◌<◌, ◌≤◌, ◌+◌, ◌*◌, ℕ, List, length}
+use Rattle.grid_types.specs.declared.sizes.TheConstants.{PAGE_BYTES}
+use Rattle.grid_types.specs.Ranges.{slot_ranges}
+use Rattle.grid_types.specs.Shapes.{slot_gate_at}
+use Rattle.disk_trait.specs.Disk.{Agrees}
+use Rattle.disk_trait.specs.Moments.{AgreesOutside}
+use Rattle.grid_model.specs.Spellings.{LoggedBatch}
+use Rattle.grid_model.specs.Slots.{IsCommitted}
+use Rattle.grid_model.specs.Roots.{WholeRoot}
+use Rattle.journal_slots.specs.Committing.{BatchStep}
+use Rattle.file_roots.specs.Places.{RootAlone}
+use Rattle.file_images.specs.Kept.{OtherHeader, Shut, Flying, InDoubt, Kept, used, next_number}
+use Rattle.file_images.specs.Shows.{ShowsRoots, gate_in, Shows}
+use Rattle.file_images.specs.Apart.{IsFreePage}
+use Rattle.file_images.specs.Steps.{with_doubt, with_slot, with_barred, with_next_shut, with_loose, with_shut}
+use Rattle.file_images.specs.Leads.{Meaning, behind, Leads, HasMeaningOrBehind}
+
+-- a write on a page of which nothing is kept leaves what an image shows
+abbrev pub WritesApartLeave : ℕ → Type 0
+WritesApartLeave K = (k : Kept K) (q at n : ℕ) (c d : List ℕ) → IsFreePage k q → q * PAGE_BYTES ≤ at → at + n ≤ q * PAGE_BYTES + PAGE_BYTES → Agrees at n c d → Shows k c → Shows k d
+
+-- an image that shows what is kept, where no batch is just being written, has the meaning to which that leads, or the one behind the batch in doubt
+abbrev pub ShownMeans : ℕ → Type 0
+ShownMeans K = (k : Kept K) (image : List ℕ) (m : Meaning K) → Shows k image → k.next ≢ Flying → Leads k m → HasMeaningOrBehind k image m
+
+-- the batch in doubt, where it counts, leads on to the meaning behind it; where it is barred, or gone, all leads to the meaning to which it led
+pub record DoubtLeadsOn (K : ℕ) : Type 0 where
+  pub counts : (k : Kept K) (d : LoggedBatch K) (m : Meaning K) → k.half < 2 → k.next ≡ InDoubt d → 0 < length d.updates → Leads k m → Leads (with_slot k d) (behind m d)
+  pub barred : (k : Kept K) (d : LoggedBatch K) (m : Meaning K) → k.half < 2 → k.next ≡ InDoubt d → Leads k m → Leads (with_barred k d) m
+  pub gone : (k : Kept K) (m : Meaning K) → Leads k m → Leads (with_next_shut k) m
+
+-- at each moment of a commit on the next slot, on which nothing is, its batch is in doubt there, and when it is committed it counts there
+pub record CommittingShows (K : ℕ) : Type 0 where
+  pub during : (k : Kept K) (b : LoggedBatch K) (c d : List ℕ) → k.next ≡ Shut → used k k.half < k.shape.slots → Shows k c → BatchStep k.shape k.half (used k k.half) b c d → Shows (with_doubt k b) d
+  pub after : (k : Kept K) (b : LoggedBatch K) (c d : List ℕ) → k.next ≡ Shut → used k k.half < k.shape.slots → Shows k c → AgreesOutside (slot_ranges k.shape k.half (used k k.half)) c d → IsCommitted k.shape k.half (used k k.half) b d → Shows (with_slot k b) d
+
+-- while the gates of the half that is not current are closed, they may be anything, and then no slot of it is used
+pub record ClearingShows (K : ℕ) : Type 0 where
+  pub during : (k : Kept K) (h : ℕ) (c d : List ℕ) → Shows k c → h < 2 → h ≢ k.half → Agrees (slot_gate_at k.shape h 0) (used k h) c d → Shows (with_loose k h) d
+  pub after : (k : Kept K) (h : ℕ) (c d : List ℕ) → Shows k c → h < 2 → h ≢ k.half → Agrees (slot_gate_at k.shape h 0) (used k h) c d → ((i : ℕ) → i < used k h → gate_in k.shape h i d ≡ 0) → Shows (with_shut k h) d
+
+-- where only the bytes of the next root change, all but the roots is shown as before
+abbrev pub RootStepsShow : ℕ → Type 0
+RootStepsShow K = (k : Kept K) (root : WholeRoot) (other : OtherHeader) (c d : List ℕ) → Shows k c → RootAlone k.shape (next_number k) c d → ShowsRoots k.shape root other d → Shows (record k { root = root; other = other }) d

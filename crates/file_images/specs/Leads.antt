@@ -1,0 +1,100 @@
+-- What is kept on a file leads from its root to one meaning: plain facts, with no disk and no image.
+use Rattle.std.specs.Prelude.{◌≡◌, ◌⊎◌, ◌<◌, ◌≤◌, ◌+◌, ℕ, List, [], ◌∷◌, ◌++◌, map, flat_map, fold, length, slice_get, slice_index, Some, Contains}
+use Rattle.grid_types.specs.declared.layout_change.LoggedUpdate.{LoggedUpdate}
+use Rattle.grid_types.specs.declared.owner.Owner.{Owner}
+use Rattle.grid_types.specs.declared.owner.Owner.TheVariants.{Bucket, Part}
+use Rattle.grid_model.specs.Tables.{Table}
+use Rattle.grid_model.specs.Cells.{parts}
+use Rattle.grid_model.specs.Layouts.{Layout}
+use Rattle.grid_model.specs.LayoutLaws.{StandsOver}
+use Rattle.grid_model.specs.Lawful.{Area}
+use Rattle.grid_model.specs.Lone.{opened}
+use Rattle.grid_model.specs.Spellings.{LoggedBatch}
+use Rattle.grid_model.specs.Images.{numbers_of, logged_effect, layout_after, MayRedoAll, Stands, IsShaped}
+use Rattle.grid_model.specs.Roots.{WholeRoot}
+use Rattle.history_pages.specs.OwnerPages.{owner_page}
+use Rattle.file_images.specs.Kept.{Barred, Counting, PlacedBatch, NextSlot, Shut, Flying, InDoubt, MayBeNewest, Kept, on_half}
+
+-- what a file means: a table at a place of the history, and the layout there
+pub record Meaning (K : ℕ) : Type 0 where
+  pub place : ℕ
+  pub table : Table
+  pub layout : Layout K
+
+-- an image has a meaning: it stands for the table at the place, and has the layout
+pub record HasMeaning {K : ℕ} (image : List ℕ) (m : Meaning K) : Type 0 where
+  pub stands : Stands K image m.place m.table
+  pub shaped : IsShaped image m.layout
+
+-- the meaning behind a batch
+abbrev pub behind : {K : ℕ} → Meaning K → LoggedBatch K → Meaning K
+behind m b = record { place = m.place + length b.updates; table = fold logged_effect m.table b.updates; layout = layout_after m.layout b.updates }
+
+-- batches follow one another from a place to another, none empty
+abbrev pub Chain : {K : ℕ} → ℕ → List (LoggedBatch K) → ℕ → Type 0
+Chain from [] to = from ≡ to
+Chain from (b ∷ bs) to = (b.first ≡ from + 1) × (0 < length b.updates) × Chain (from + length b.updates) bs to
+
+-- the updates of batches, in order
+abbrev pub updates_in : {K : ℕ} → List (LoggedBatch K) → List (LoggedUpdate K)
+updates_in bs = flat_map (λ b. b.updates) bs
+
+-- the data page that a table area names for an owner
+abbrev pub page_named : Area → Owner → ℕ
+page_named a (Bucket n) = slice_index a.table n
+page_named a (Part p) = slice_index a.parts p
+
+-- the pages that a root names always hold the pages of the owners of a layout that stands over a table, and it names pages for all of these owners and no other
+pub record RootHolds {K : ℕ} (k : Kept K) (w : WholeRoot) (L : Layout K) (t : Table) : Type 0 where
+  pub scales : L.scales ≡ w.area.scales
+  pub directory : length w.area.parts ≡ parts L.scales
+  pub numbers : map (λ e. e.0) L.boxes ≡ numbers_of w.area.table
+  pub stands : StandsOver k.shape L t
+  pub records : w.fields.records ≡ length t
+  pub pages : (o : Owner) (bytes : List ℕ) → owner_page L t o ≡ Some bytes → slice_get k.always (page_named w.area o) ≡ Some (Some bytes)
+
+-- a batch stands on a slot where it counts
+pub record CountsOn {K : ℕ} (k : Kept K) (b : LoggedBatch K) : Type 0 where
+  pub half : ℕ
+  pub slot : ℕ
+  pub two : half < 2
+  pub there : slice_get (on_half k half) slot ≡ Some (record { batch = b; gate = Counting })
+
+-- the place behind the batch in doubt, if there is one
+abbrev pub reach : {K : ℕ} → NextSlot K → ℕ → ℕ
+reach Shut n = n
+reach Flying n = n
+reach (InDoubt b) n = n + length b.updates
+
+-- a batch on a slot is barred, or the root has its updates, or it is one of these, or it begins beyond any place that may be reached
+abbrev pub IsKnown : {K : ℕ} → ℕ → List (LoggedBatch K) → ℕ → PlacedBatch K → Type 0
+IsKnown from taken far p = (p.gate ≡ Barred) ⊎ ((p.batch.first ≤ from) ⊎ (Contains taken p.batch ⊎ (far + 1 < p.batch.first)))
+
+-- the batch in doubt may be taken behind these ones: it is of the root's session, begins at the next place, and each of its updates may be made
+pub record MayFollow {K : ℕ} (k : Kept K) (w : WholeRoot) (L : Layout K) (t : Table) (taken : List (LoggedBatch K)) (place : ℕ) (d : LoggedBatch K) : Type 0 where
+  pub session : d.session ≡ w.fields.session
+  pub first : d.first ≡ place + 1
+  pub may : MayRedoAll k.shape (opened t L w.fields.front) (updates_in (taken ++ d ∷ []))
+
+-- a root leads to a meaning: its pages hold a layout and a table, and from its front the batches of its session that count go up to the place without a gap, and make of both the layout and the table there; no other batch joins them; each may be taken, and so may the one in doubt behind them
+pub record RootLeads {K : ℕ} (k : Kept K) (w : WholeRoot) (m : Meaning K) : Type 0 where
+  pub layout : Layout K
+  pub table : Table
+  pub holds : RootHolds k w layout table
+  pub taken : List (LoggedBatch K)
+  pub chain : Chain w.fields.front taken m.place
+  pub there : (b : LoggedBatch K) → Contains taken b → (b.session ≡ w.fields.session) × CountsOn k b
+  pub known : (h i : ℕ) (p : PlacedBatch K) → h < 2 → slice_get (on_half k h) i ≡ Some p → p.batch.session ≡ w.fields.session → IsKnown w.fields.front taken (reach k.next m.place) p
+  pub sessions : (h i : ℕ) (p : PlacedBatch K) → h < 2 → slice_get (on_half k h) i ≡ Some p → p.batch.session ≤ w.fields.session
+  pub makes_table : m.table ≡ fold logged_effect table (updates_in taken)
+  pub makes_layout : m.layout ≡ layout_after layout (updates_in taken)
+  pub may : MayRedoAll k.shape (opened table layout w.fields.front) (updates_in taken)
+  pub doubt : (d : LoggedBatch K) → k.next ≡ InDoubt d → MayFollow k w layout table taken m.place d
+
+-- what is kept leads to a meaning: each root that may be the newest leads to it
+abbrev pub Leads : {K : ℕ} → Kept K → Meaning K → Type 0
+Leads k m = (w : WholeRoot) → MayBeNewest k w → RootLeads k w m
+
+-- an image has a meaning, or, where a batch is in doubt, the one behind it
+abbrev pub HasMeaningOrBehind : {K : ℕ} → Kept K → List ℕ → Meaning K → Type 0
+HasMeaningOrBehind {K} k image m = HasMeaning image m ⊎ ((d : LoggedBatch K) × (k.next ≡ InDoubt d) × HasMeaning image (behind m d))

@@ -1,0 +1,33 @@
+//! The laws of what a file keeps, as contracts of functions without code.
+ghost use Rattle.file_images.specs.KeptLaws.{WritesApartLeave, ShownMeans, DoubtLeadsOn, CommittingShows, ClearingShows, RootStepsShow};
+
+/// The law of pages apart: a write on a page of which nothing is kept leaves what an image shows.
+pub fn apart_law<const K: usize>()
+    ensures { WritesApartLeave K }
+{}
+
+/// The law of meanings: an image that shows what a file keeps has the meaning to which that leads, or the one behind the
+/// batch in doubt.
+pub fn meaning_law<const K: usize>()
+    ensures { ShownMeans K }
+{}
+
+/// The law of doubt: what becomes of a batch in doubt decides where all that is kept leads.
+pub fn doubt_law<const K: usize>()
+    ensures { DoubtLeadsOn K }
+{}
+
+/// The law of commits: while a batch is committed on the next slot it is in doubt, and then it counts.
+pub fn commit_law<const K: usize>()
+    ensures { CommittingShows K }
+{}
+
+/// The law of clearing: gates that are closed may be anything until they are 0.
+pub fn clearing_law<const K: usize>()
+    ensures { ClearingShows K }
+{}
+
+/// The law of root steps: they change what is shown of the roots alone.
+pub fn root_law<const K: usize>()
+    ensures { RootStepsShow K }
+{}
