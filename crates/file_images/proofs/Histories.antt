@@ -56,6 +56,14 @@ is_in_doubt (InDoubt b) = true
 pub shut_no_doubt : {K : ℕ} {A : Type 0} (d : LoggedBatch K) → Shut ≡ InDoubt d → A
 shut_no_doubt d e = absurd (true≢false (sym (ap is_in_doubt e)))
 
+abbrev is_flying : {K : ℕ} → NextSlot K → Bool
+is_flying Shut = false
+is_flying Flying = true
+is_flying (InDoubt b) = false
+
+pub shut_not_flying : {K : ℕ} → ◌≡◌ {A = NextSlot K} Shut Flying → ⊥
+shut_not_flying e = true≢false (sym (ap is_flying e))
+
 module _ {K : ℕ} (k : Kept K) (w : WholeRoot) (m : Meaning K) (c : RootLeads k w m) where
   -- where nothing is on the next slot
   pub leads_shut : RootLeads (with_next_shut k) w m

@@ -19,4 +19,8 @@ pub mod Resolving
 pub mod Found
 pub mod Histories
 pub mod Meanings
+pub mod Settling
+pub mod Covering
+pub mod NewFile
+pub mod NewImage
 mod Rows

@@ -8,3 +8,5 @@ pub mod Steps
 pub mod Apart
 pub mod Leads
 pub mod KeptLaws
+pub mod NewFiles
+pub mod MeetingLaws

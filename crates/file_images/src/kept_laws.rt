@@ -1,5 +1,6 @@
 //! The laws of what a file keeps, as contracts of functions without code.
 ghost use Rattle.file_images.specs.KeptLaws.{WritesApartLeave, ShownMeans, DoubtLeadsOn, CommittingShows, ClearingShows, RootStepsShow};
+ghost use Rattle.file_images.specs.NewFiles.{NewFilesMean};
 
 /// The law of pages apart: a write on a page of which nothing is kept leaves what an image shows.
 pub fn apart_law<const K: usize>()
@@ -30,4 +31,10 @@ pub fn clearing_law<const K: usize>()
 /// The law of root steps: they change what is shown of the roots alone.
 pub fn root_law<const K: usize>()
     ensures { RootStepsShow K }
+{}
+
+/// The law of new files: the image of a new file shows what a new file keeps, and has the meaning to which that leads: at
+/// place 0 the empty table, with the layout of a new file.
+pub fn new_file_law<const K: usize>()
+    ensures { NewFilesMean K }
 {}

@@ -3,6 +3,10 @@
 
 mod kept_laws;
 mod laws;
+mod meeting_laws;
 
-pub use kept_laws::{apart_law, clearing_law, commit_law, doubt_law, meaning_law, root_law};
+pub use kept_laws::{
+    apart_law, clearing_law, commit_law, doubt_law, meaning_law, new_file_law, root_law,
+};
 pub use laws::{damage_law, free_page_law, image_law};
+pub use meeting_laws::{covering_law, meeting_law};
