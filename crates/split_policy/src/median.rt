@@ -45,6 +45,8 @@ fn median_cut<const K: usize>(
 }
 
 impl<const K: usize> CutRule<K> for Median {
+    ghost chosen = { λ rule. cut };
+
     fn cut(
         &self,
         rows: &[Record<K>],
