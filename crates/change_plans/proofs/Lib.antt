@@ -1,0 +1,4 @@
+pub mod Inside
+pub mod Buckets
+pub mod Noted
+pub mod Pages
