@@ -7,6 +7,7 @@ is a small mistake in a rule that can be switched on; a kept script tells a slip
 
     python3 independent_model.py rows|drawn|merges|directed|grammar    prints that set as a file of theorems
     python3 independent_model.py slips                                 prints which kept scripts tell which slip
+    python3 independent_model.py buckets                               prints the drawn buckets that split_policy's test cuts
 
 `run(shape, script, slips)` is the model; the kept scripts stand in kept_scripts.py. Each set is the same at each run:
 random scripts come from fixed seeds, and the expected texts of the worked rows were written by hand and are compared
@@ -349,5 +350,9 @@ def run(shape, script, slips=()):
 
 
 if __name__ == "__main__":
-    import kept_scripts
-    kept_scripts.main(sys.argv[1:])
+    if sys.argv[1:] == ["buckets"]:
+        import drawn_buckets
+        drawn_buckets.main()
+    else:
+        import kept_scripts
+        kept_scripts.main(sys.argv[1:])

@@ -341,4 +341,4 @@ def main(words):
     elif len(words) == 1 and words[0] in sets:
         print(theorem_file(words[0], sets[words[0]], comments.get(words[0], [])), end="")
     else:
-        raise SystemExit("independent_model.py rows|drawn|merges|directed|grammar|slips")
+        raise SystemExit("independent_model.py rows|drawn|merges|directed|grammar|slips|buckets")

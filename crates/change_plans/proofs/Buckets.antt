@@ -1,25 +1,21 @@
 -- The bucket of the box that has a key after an update.
-use Rattle.std.proofs.Common.{◌≡◌, ◌≢◌, ◌<◌, ℕ, Bool, true, false, cond, not, ◌&&◌, ◌||◌, List, map, filter, length, min, slice_index, nat_lt, nat_le, Option, Some, None, IsTrue, refl, sym, ap, ◌∙◌, true≢false, option_map}
+use Rattle.std.proofs.Common.{◌≡◌, ◌≢◌, ◌<◌, ℕ, Bool, true, false, cond, not, List, map, length, min, slice_index, nat_lt, nat_le, Some, None, IsTrue, refl, sym, ap, ◌∙◌, option_map}
 use Rattle.std.proofs.lemmas.List.{length-map}
 use Rattle.std.specs.Ordering.{eq_by_cmp}
 use Rattle.std.specs.FinMap.Entries.{is_sorted-where_key}
 use Rattle.std.specs.Option.{unwrap_or}
-use Rattle.grid_types.specs.declared.key.Key.{Key}
 use Rattle.grid_types.specs.declared.layout_change.Cut.{Cut}
 use Rattle.grid_types.specs.declared.layout_change.LayoutChange.TheVariants as note
-use Rattle.grid_types.specs.declared.region.Region.{Region}
 use Rattle.grid_types.specs.declared.shape.Shape.{Shape}
 use Rattle.grid_types.specs.declared.update.Record.{Record}
-use Rattle.grid_types.specs.declared.update.Update.TheVariants.{Put, Remove}
 use Rattle.grid_types.specs.Keys.{key_cmp}
 use Rattle.grid_types.specs.Regions.{contains, IsRegion, is_within, make_a_box, hull}
 use Rattle.grid_model.specs.Images.{bucket_on}
 use Rattle.grid_model.specs.Lone.{record_of}
-use Rattle.grid_model.specs.Tables.{Table, IsTable, get, pairs_of, with_data, without, effect}
+use Rattle.grid_model.specs.Tables.{Table, IsTable, get, pairs_of, with_data, without}
 use Rattle.grid_model.specs.Layouts.{BucketBox, Layout, box, holder, records_inside}
 use Rattle.grid_model.specs.LayoutLaws.{StandsOver}
 use Rattle.grid_model.specs.Notes.{left_of, right_of, together, split, joined, after_note_at}
-use Rattle.grid_model.specs.Spellings.{BucketOf}
 use Rattle.grid_model.proofs.CutBoxes.{box-left, box-right}
 use Rattle.grid_model.proofs.CutRegions.{left-contains, right-contains}
 use Rattle.grid_model.proofs.Divided.{pairs-of-records}
@@ -29,7 +25,7 @@ use Rattle.grid_model.proofs.Joined.{is-merge}
 use Rattle.history_pages.specs.OwnerPages.{as_bucket, numbered_bucket}
 use Rattle.history_pages.proofs.Cutting.{CutsBox}
 use Rattle.bucket_page.specs.Putting.{with_record}
-use Rattle.bucket_page.specs.Changing.{without_key, rows_below, rows_from, left_bucket, right_bucket, with_all, joined_buckets}
+use Rattle.bucket_page.specs.Changing.{without_key, left_bucket, right_bucket, with_all, joined_buckets}
 use Rattle.change_plans.proofs.Inside.{get-inside, inside-put, inside-without, inside-others, inside-part, records-where, inside-both}
 
 module _ {K : ℕ} where

@@ -1,5 +1,5 @@
 -- The note of a put into the box that has the key.
-use Rattle.std.proofs.Common.{◌≡◌, ◌<◌, ◌≤◌, ◌||◌, ℕ, Bool, true, false, cond, List, map, length, Option, Some, None, IsTrue, refl, sym, ap, ◌∙◌, arith, is_some, nat_lt, lt-ltb, option_map, option_and_then}
+use Rattle.std.proofs.Common.{◌≡◌, ◌<◌, ◌||◌, ℕ, Bool, true, false, cond, List, length, Option, Some, None, refl, ap, ◌∙◌, arith, is_some, nat_lt, lt-ltb, option_map, option_and_then}
 use Rattle.std.proofs.lemmas.Bool.{le-ltb}
 use Rattle.grid_types.specs.declared.layout_change.LayoutChange.TheVariants as note
 use Rattle.grid_types.specs.declared.layout_change.LayoutChange.{LayoutChange}

@@ -1,5 +1,5 @@
 -- The page of the box that has a key after an update.
-use Rattle.std.proofs.Common.{◌≡◌, ◌<◌, ◌⊎◌, inl, inr, ℕ, true, List, length, Option, Some, None, IsTrue, refl, sym, ap, ◌∙◌, arith, is_some, option_map}
+use Rattle.std.proofs.Common.{◌≡◌, ◌<◌, ◌⊎◌, inl, inr, ℕ, true, List, length, Option, Some, None, refl, sym, ap, ◌∙◌, arith, is_some, option_map}
 use Rattle.grid_types.specs.declared.key.Key.{Key}
 use Rattle.grid_types.specs.declared.layout_change.LayoutChange.TheVariants as note
 use Rattle.grid_types.specs.declared.owner.Owner.TheVariants.{Bucket}
@@ -14,7 +14,6 @@ use Rattle.grid_model.specs.Notes.{put_note}
 use Rattle.grid_model.specs.Spellings.{BucketOf, bucket_spelling}
 use Rattle.grid_model.specs.Tables.{Table, get, pairs_of, effect}
 use Rattle.history_pages.specs.OwnerPages.{numbered_bucket, owner_page}
-use Rattle.history_pages.specs.PageLaws.{page_after}
 use Rattle.bucket_page.specs.Putting.{with_record}
 use Rattle.bucket_page.specs.Changing.{without_key}
 use Rattle.change_plans.specs.Plans.{IsPageOf, IsCutDue, IsPlainPut, IsPlainRemove}

@@ -1,6 +1,5 @@
 -- What the pages of buckets are over a layout and a table, before and after an update.
-use Rattle.std.specs.Prelude.{◌≡◌, ◌≢◌, ℕ, List, length, min, Option, Some, None}
-use Rattle.std.specs.Option.{option_map}
+use Rattle.std.specs.Prelude.{◌≡◌, ◌≢◌, ℕ, ◌+◌, ◌*◌, ◌/◌, Bool, ◌&&◌, List, length, nat_le, min, Option, Some, None, IsTrue}
 use Rattle.grid_types.specs.declared.key.Key.{Key}
 use Rattle.grid_types.specs.declared.layout_change.Cut.{Cut}
 use Rattle.grid_types.specs.declared.layout_change.LayoutChange.TheVariants as note
@@ -8,12 +7,17 @@ use Rattle.grid_types.specs.declared.owner.Owner.TheVariants.{Bucket}
 use Rattle.grid_types.specs.declared.shape.Shape.{Shape}
 use Rattle.grid_types.specs.declared.update.Record.{Record}
 use Rattle.grid_types.specs.declared.update.Update.TheVariants.{Put, Remove}
+use Rattle.grid_types.specs.Regions.{contains, make_a_box}
 use Rattle.grid_model.specs.Tables.{Table, get}
-use Rattle.grid_model.specs.Layouts.{BucketBox, Layout, box, holder}
-use Rattle.grid_model.specs.Notes.{put_note, cut_note, IsLawfulNote}
+use Rattle.grid_model.specs.Layouts.{BucketBox, Layout, box, holder, unused}
+use Rattle.grid_model.specs.Cuts.{cut}
+use Rattle.grid_model.specs.Notes.{put_note, IsLawfulNote}
 use Rattle.grid_model.specs.LayoutLaws.{StandsOver}
 use Rattle.grid_model.specs.Buckets.{SpellsBucket}
 use Rattle.grid_model.specs.Images.{bucket_on}
+use Rattle.grid_model.specs.Spellings.{BucketOf}
+use Rattle.bucket_page.specs.Changing.{without_key}
+use Rattle.bucket_page.specs.Putting.{with_record}
 use Rattle.history_pages.specs.PageLaws.{page_after}
 
 -- a page with so many records is that of the box that has a key, over a layout that stands over a table
@@ -39,3 +43,37 @@ pub record IsPlainPut {K : ℕ} (shape : Shape) (L : Layout K) (t : Table) (r : 
 pub record IsPlainRemove {K : ℕ} (shape : Shape) (L : Layout K) (t : Table) (k : Key K) (e : ℕ × BucketBox K) (bytes : List ℕ) : Type 0 where
   pub noted : IsLawfulNote shape L t (Remove k) note.Plain
   pub page : page_after L t (Remove k) note.Plain e (Bucket e.0) ≡ Some bytes
+
+-- what holds of the bucket that a page spells with a record of its region put into it
+abbrev pub OfOverfull : {K : ℕ} → ℕ → List ℕ → Record K → (BucketOf K → Type 0) → Type 0
+OfOverfull {K} capacity bytes r P = (b : BucketOf K) → SpellsBucket capacity bytes b → IsTrue (contains b.box.region r.key.numbers) → P (with_record b r)
+
+-- a rule, the boundaries and the number of the right part are those by which a layout is cut
+pub record CutsByLayout {K : ℕ} (rule : Shape → List (List ℕ) → BucketBox K → List (List ℕ) → Option Cut) (L : Layout K) (boundaries : List (List ℕ)) (right : ℕ) : Type 0 where
+  pub median : (shape : Shape) (scales : List (List ℕ)) (b : BucketBox K) (keys : List (List ℕ)) → rule shape scales b keys ≡ cut shape scales b keys
+  pub scales : boundaries ≡ L.scales
+  pub number : right ≡ unused L
+
+-- the new pages of both parts after a put that cuts the box that has the key
+pub record IsCutPut {K : ℕ} (L : Layout K) (t : Table) (r : Record K) (e : ℕ × BucketBox K) (c : Cut) (number : ℕ) (below from : List ℕ) : Type 0 where
+  pub left : page_after L t (Put r) (note.Cut c number) e (Bucket e.0) ≡ Some below
+  pub right : page_after L t (Put r) (note.Cut c number) e (Bucket number) ≡ Some from
+
+-- what holds of the buckets that two pages spell, the first without a key
+abbrev pub OfTwo : (K : ℕ) → ℕ → List ℕ → List ℕ → List ℕ → (BucketOf K → BucketOf K → Type 0) → Type 0
+OfTwo K capacity bytes k others P = (b c : BucketOf K) → SpellsBucket capacity bytes b → SpellsBucket capacity others c → P (without_key b k) c
+
+-- two buckets may be joined: their regions are a box, and their records are at most seven tenths of a bucket's
+abbrev pub may_join : {K : ℕ} → ℕ → BucketOf K → BucketOf K → Bool
+may_join capacity b c = make_a_box b.box.region c.box.region && nat_le (length b.rows + length c.rows) (7 * capacity / 10)
+
+-- a page is that of another box of the layout
+pub record IsPageBeside {K : ℕ} (shape : Shape) (L : Layout K) (t : Table) (e f : ℕ × BucketBox K) (bytes : List ℕ) : Type 0 where
+  pub there : box L f.0 ≡ Some f.1
+  pub differ : e.0 ≢ f.0
+  pub spelled : SpellsBucket shape.capacity bytes (bucket_on t f)
+
+-- the new page after a remove that joins the box that has the key with another one: that of the lower number
+pub record IsMergeRemove {K : ℕ} (L : Layout K) (t : Table) (k : Key K) (e : ℕ × BucketBox K) (m low : ℕ) (bytes : List ℕ) : Type 0 where
+  pub number : low ≡ min e.0 m
+  pub page : page_after L t (Remove k) (note.Merge m) e (Bucket low) ≡ Some bytes

@@ -12,4 +12,8 @@ pub use median::Median;
 pub use rule::{CutRule, MOST_ROWS};
 
 #[cfg(test)]
+mod drawn;
+#[cfg(test)]
+mod drawn_tests;
+#[cfg(test)]
 mod tests;

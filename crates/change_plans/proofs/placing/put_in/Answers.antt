@@ -1,8 +1,7 @@
-use Rattle.std.proofs.Common.{◌≡◌, ◌≤◌, ◌<◌, ◌∙◌, inl, inr, ℕ, Some, None, length, refl, sym, ap, arith}
+use Rattle.std.proofs.Common.{◌≤◌, ◌<◌, ◌∙◌, inl, inr, Some, None, length, refl, sym, ap, arith}
 use Rattle.grid_types.specs.declared.update.Record.{Record}
 use Rattle.grid_model.specs.Images.{bucket_on}
-use Rattle.grid_model.specs.Tables.{get, pairs_of}
-use Rattle.bucket_page.specs.OnPage.{OfBucket, record_at}
+use Rattle.bucket_page.specs.OnPage.{record_at}
 use Rattle.bucket_page.proofs.Finding.{none_on}
 use Rattle.change_plans.proofs.Pages.{has-key, puts-plainly, cut-due}
 use Rattle.change_plans.proofs.placing.put_in.Goals as goal
