@@ -10,3 +10,6 @@ pub use cutting::cut_of;
 pub use joining::join_of;
 pub use placing::{Placed, put_in};
 pub use taking::take_from;
+
+#[cfg(test)]
+mod tests;
