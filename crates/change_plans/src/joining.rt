@@ -20,7 +20,8 @@ use merge_policy::joinable;
 fn drop_key<const K: usize>(bucket: &mut Bucket<K>, key: &Key<K>)
     requires { IsTable (pairs_of bucket.old.rows.items) }
     ensures bucket { bucket_of bucket.new ≡ without_key (bucket_of bucket.old) key.now.numbers }
-    ensures lawful { (c : ℕ) → IsBucket c (bucket_of bucket.old) → IsBucket c (bucket_of bucket.new) }
+    ensures lawful { (c : ℕ) → IsBucket c (bucket_of bucket.old)
+        → IsBucket c (bucket_of bucket.new) }
 {
     if let Some(at) = bucket.find(key) {
         let _dropped = bucket.rows.remove(at);
