@@ -1,0 +1,54 @@
+-- What a get answers where the place has the pages of a layout and a table.
+use Rattle.std.proofs.Common.{◌≡◌, ◌<◌, ℕ, Bool, true, false, cond, List, length, Option, Some, None, refl, sym, ap, ◌∙◌, subst, arith}
+use Rattle.std.proofs.lemmas.List.{length-map}
+use Rattle.std.specs.FinMap.Entries.{find-where_key}
+use Rattle.grid_types.specs.declared.refusal.Refusal.{Refusal}
+use Rattle.grid_types.specs.declared.shape.Shape.{Shape}
+use Rattle.grid_types.specs.Keys.{IsKey, key_cmp}
+use Rattle.grid_types.specs.Regions.{contains}
+use Rattle.grid_model.specs.Cells.{dims, cell_of}
+use Rattle.grid_model.specs.ScaleLaws.{IsCell}
+use Rattle.grid_model.specs.Tables.{Table, get, pairs_of}
+use Rattle.grid_model.specs.Layouts.{BucketBox, Layout, records_inside}
+use Rattle.grid_model.specs.LayoutLaws.{StandsOver}
+use Rattle.grid_model.specs.Spellings.{BucketOf}
+use Rattle.grid_model.specs.Expected.{Sought, SoughtKey}
+use Rattle.grid_model.specs.Images.{bucket_on}
+use Rattle.grid_model.proofs.CellLaws.{have-indices}
+use Rattle.grid_model.proofs.Divided.{pairs-of-records}
+use Rattle.grid_model.proofs.TableLaws.{alike}
+use Rattle.query_paths.specs.Pinned.{Place, IsPinnedTo}
+use Rattle.query_paths.specs.Paths.{IsFound, IsUnexpected}
+use Rattle.query_paths.proofs.Naming.{place_over, pinned-place, named-box, bucket-is, as-expected}
+
+-- a region that has a key has the table's data at it
+pub inside-same : {K : ℕ} (t : Table) (n : ℕ) (b : BucketBox K) (k : List ℕ) → contains b.region k ≡ true → get (pairs_of (bucket_on t (n, b)).rows) k ≡ get t k
+inside-same {K} t n b k has =
+    ap (λ (s : Table). get s k) (pairs-of-records K (records_inside t b.region))
+    ∙ find-where_key key_cmp (contains b.region) k (alike (contains b.region) k) t
+    ∙ ap (λ (x : Bool). cond x (get t k) None) has
+
+module _ {K : ℕ} (p : Place) (L : Layout K) (t : Table) (pin : IsPinnedTo p L t) (key : List ℕ) (is_key : IsKey K key) where
+  -- the same place, as that of the layout and the table
+  abbrev same : Place
+  same = place_over p.shape L t p.file_page
+
+  cell : IsCell (dims L.scales) (cell_of L.scales key)
+  cell = (have-indices K).key L.scales key (is_key.count ∙ sym pin.stands.sound.attributes)
+
+  answered-over : (bytes : List ℕ) (answer : Option (List ℕ)) → IsFound K same key bytes answer → answer ≡ get t key
+  answered-over bytes answer f =
+      let found = named-box p.shape L t p.file_page pin.stands (cell_of L.scales key) cell f.number f.names in
+      let is : f.bucket ≡ bucket_on t (f.number, found.0) = bucket-is p.shape L t p.file_page pin.stands f.number found.0 bytes f.bucket found.1.there (f.has.page.given _ refl) f.has.expected.spelled in
+      f.answer_is ∙ ap (λ (b : BucketOf K). get (pairs_of b.rows) key) is ∙ inside-same t f.number found.0 key (found.1.inside key is_key refl)
+
+  -- what a get finds is what the table has at the key
+  pub answered : (bytes : List ℕ) (answer : Option (List ℕ)) → IsFound K p key bytes answer → answer ≡ get t key
+  answered bytes answer f = answered-over bytes answer (subst (λ (q : Place). IsFound K q key bytes answer) (pinned-place p L t pin) f)
+
+  unexpected-over : (bytes : List ℕ) (at : ℕ) → IsUnexpected K same (cell_of L.scales key) (SoughtKey key) bytes bytes at → ⊥
+  unexpected-over bytes at u = as-expected p.shape L t p.file_page pin.stands (cell_of L.scales key) cell (SoughtKey key) bytes bytes at (λ k e. (subst (IsKey K) (sym e) is_key, ap (cell_of L.scales) e)) u
+
+  -- and each page that it reads is the expected one
+  pub get-expected : (bytes : List ℕ) (at : ℕ) → IsUnexpected K p (cell_of p.scales key) (SoughtKey key) bytes bytes at → ⊥
+  get-expected bytes at u = unexpected-over bytes at (subst (λ (q : Place). IsUnexpected K q (cell_of q.scales key) (SoughtKey key) bytes bytes at) (pinned-place p L t pin) u)

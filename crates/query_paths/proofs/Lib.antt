@@ -1,0 +1,4 @@
+pub mod Judged
+pub mod Naming
+pub mod Answered
+pub mod Refusing

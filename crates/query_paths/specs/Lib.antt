@@ -1,0 +1,4 @@
+pub mod Pinned
+pub mod Calls
+pub mod Paths
+pub mod Readings

@@ -1,0 +1,67 @@
+-- What a path over the pages of a place finds, and why it may find none.
+use Rattle.std.specs.Prelude.{◌≡◌, ◌<◌, ◌≤◌, ◌%◌, ◌^◌, ℕ, List, Option, Result, IfErr, IsTrue, slice_index}
+use Rattle.grid_types.specs.declared.owner.Owner.{Owner}
+use Rattle.grid_types.specs.declared.owner.Owner.TheVariants.{Bucket, Part}
+use Rattle.grid_types.specs.declared.refusal.Refusal.{Refusal}
+use Rattle.grid_types.specs.declared.refusal.Refusal.TheVariants.{ReadFault, Damaged}
+use Rattle.grid_types.specs.declared.sizes.TheConstants.{WORDS_ON_PAGE}
+use Rattle.grid_model.specs.Lists.{is_among}
+use Rattle.grid_model.specs.Cells.{dims, cell_of, cell_index, part_of}
+use Rattle.grid_model.specs.Tables.{get, pairs_of}
+use Rattle.grid_model.specs.Spellings.{BucketOf}
+use Rattle.grid_model.specs.Expected.{Sought, SoughtKey, IsExpectedPart, IsExpectedBucket}
+use Rattle.history_pages.specs.SpellingLaws.{cells_in_part}
+use Rattle.disk_trait.specs.Causes.{Rose}
+use Rattle.query_paths.specs.Pinned.{Place, IsPageOf}
+
+-- where a cell stands among the cells of its part
+abbrev pub index_in_part : List (List ℕ) → List ℕ → ℕ
+index_in_part scales cell = cell_index (dims scales) cell % WORDS_ON_PAGE
+
+-- bytes are an owner's page, as a reading gives it
+abbrev pub IsPage : Place → Owner → List ℕ → ℕ → Type 0
+IsPage p o bytes at = IsPageOf p.pages p.file_page o bytes at
+
+-- a page is the expected one at a cell: that of the cell's part, as far as this cell goes, where it has these names of buckets, numbers of 32 bits
+pub record IsExpectedAt (p : Place) (cell bytes names : List ℕ) : Type 0 where
+  pub part : IsExpectedPart bytes (part_of p.scales cell) (cells_in_part p.scales (part_of p.scales cell)) p.numbers (index_in_part p.scales cell) names
+  pub in_range : (i : ℕ) → slice_index names i < 2 ^ 32
+
+-- the directory names a bucket at a cell: the page of the cell's part is the expected one, and has that number there
+pub record NamesBucket (p : Place) (cell : List ℕ) (number : ℕ) : Type 0 where
+  pub bytes : List ℕ
+  pub at : ℕ
+  pub page : IsPage p (Part (part_of p.scales cell)) bytes at
+  pub names : List ℕ
+  pub expected : IsExpectedAt p cell bytes names
+  pub named : number ≡ slice_index names (index_in_part p.scales cell)
+
+-- the page of a bucket is the expected one for what is sought, and spells this bucket
+pub record HasBucket {K : ℕ} (p : Place) (number : ℕ) (sought : Sought) (bytes : List ℕ) (b : BucketOf K) : Type 0 where
+  pub at : ℕ
+  pub page : IsPage p (Bucket number) bytes at
+  pub expected : IsExpectedBucket p.shape bytes number sought b
+
+-- a get found its answer: the bucket that the directory names at the key's cell is the one that has the key, and the answer is what its records have at the key
+pub record IsFound (K : ℕ) (p : Place) (key bytes : List ℕ) (answer : Option (List ℕ)) : Type 0 where
+  pub number : ℕ
+  pub names : NamesBucket p (cell_of p.scales key) number
+  pub bucket : BucketOf K
+  pub has : HasBucket p number (SoughtKey key) bytes bucket
+  pub answer_is : answer ≡ get (pairs_of bucket.rows) key
+
+-- a page that was read is not the expected one: as that of a cell's part it isn't spelled with as many cells as the part has, or names at the cell no bucket that there is; or as that of a bucket no bucket is spelled with that number, and a region with what is sought
+pub data IsUnexpected (K : ℕ) (p : Place) (cell : List ℕ) (sought : Sought) (part_bytes bucket_bytes : List ℕ) (at : ℕ) : Type 0 where
+  AsPart : IsPage p (Part (part_of p.scales cell)) part_bytes at → ((names : List ℕ) → IsExpectedAt p cell part_bytes names → ⊥) → IsUnexpected K p cell sought part_bytes bucket_bytes at
+  AsBucket : (number : ℕ) → NamesBucket p cell number → IsPage p (Bucket number) bucket_bytes at → ((b : BucketOf K) → IsExpectedBucket p.shape bucket_bytes number sought b → ⊥) → IsUnexpected K p cell sought part_bytes bucket_bytes at
+
+-- a get may be refused so: a reading failed, or the page that was read last is not the expected one, and is that page of the file
+abbrev pub IsGetRefusal : ℕ → Place → ℕ → ℕ → List ℕ → List ℕ → Refusal → Type 0
+IsGetRefusal K p before now key bytes ReadFault = Rose before now
+IsGetRefusal K p before now key bytes (Damaged at) = IsUnexpected K p (cell_of p.scales key) (SoughtKey key) bytes bytes at
+IsGetRefusal K p before now key bytes _ = ⊥
+
+-- a get's count of failures does not fall, and a refusal has its cause
+pub record HasGetCause {T : Type 0} (K : ℕ) (p : Place) (before now : ℕ) (key bytes : List ℕ) (result : Result T Refusal) : Type 0 where
+  pub later : before ≤ now
+  pub refused : IfErr result (IsGetRefusal K p before now key bytes)
