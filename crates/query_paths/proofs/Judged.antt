@@ -108,12 +108,15 @@ module _ {K : ℕ} (p : Place) (number : ℕ) (sought : Sought) (bytes : List �
   pub bad-bucket : (cell part_bytes : List ℕ) → NamesBucket p cell number → IsBadBucket K p number bytes at → IsUnexpected K p cell sought part_bytes bytes at
   bad-bucket cell part_bytes named bad = AsBucket number named bad.page (λ b e. bad.not_spelled b e.spelled e.number_is)
 
-  -- nor is that of a good one whose region lacks a key that is sought
-  pub wrong-bucket : (cell part_bytes : List ℕ) (head : Head K) → K ≤ MOST_ATTRIBUTES → NamesBucket p cell number → IsGoodBucket K p number bytes at head → (k : List ℕ) → IsSought K sought k → contains head.region k ≡ false → IsUnexpected K p cell sought part_bytes bytes at
-  wrong-bucket cell part_bytes head few named good k s out = AsBucket number named good.page (λ b e.
+  -- a good bucket's page is not the expected one where its region lacks a key that is sought
+  pub not-expected : (head : Head K) → K ≤ MOST_ATTRIBUTES → IsGoodBucket K p number bytes at head → (k : List ℕ) → IsSought K sought k → contains head.region k ≡ false → (b : BucketOf K) → IsExpectedBucket p.shape bytes number sought b → ⊥
+  not-expected head few good k s out b e =
       let same : b ≡ bucket_told K bytes = one_bucket_spelled p.shape.capacity bytes b (bucket_told K bytes) few good.few e.spelled good.spelled in
       let has : contains (bucket_told K bytes).box.region k ≡ true = ap (λ (x : BucketOf K). contains x.box.region k) (sym same) ∙ e.inside k s in
-      true≢false (sym has ∙ ap (λ (h : Head K). contains h.region k) (sym good.head_is) ∙ out))
+      true≢false (sym has ∙ ap (λ (h : Head K). contains h.region k) (sym good.head_is) ∙ out)
+
+  pub wrong-bucket : (cell part_bytes : List ℕ) (head : Head K) → K ≤ MOST_ATTRIBUTES → NamesBucket p cell number → IsGoodBucket K p number bytes at head → (k : List ℕ) → IsSought K sought k → contains head.region k ≡ false → IsUnexpected K p cell sought part_bytes bytes at
+  wrong-bucket cell part_bytes head few named good k s out = AsBucket number named good.page (not-expected head few good k s out)
 
 module _ {K : ℕ} (p : Place) (number : ℕ) (bytes : List ℕ) (at capacity : ℕ) (is : capacity ≡ p.shape.capacity) (named : IsTrue (is_among p.numbers number)) (page : IsPage p (Bucket number) bytes at) where
   -- a page that spells no bucket is bad

@@ -1,4 +1,11 @@
+pub mod Rounds
+pub mod Found
+pub mod CellKeys
+pub mod Distinct
 pub mod Judged
 pub mod Naming
 pub mod Answered
 pub mod Refusing
+pub mod Visits
+pub mod Coming
+pub mod Stepping

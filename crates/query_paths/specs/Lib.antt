@@ -2,3 +2,5 @@ pub mod Pinned
 pub mod Calls
 pub mod Paths
 pub mod Readings
+pub mod Gathering
+pub mod Walks

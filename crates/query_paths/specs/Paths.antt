@@ -1,16 +1,19 @@
 -- What a path over the pages of a place finds, and why it may find none.
-use Rattle.std.specs.Prelude.{◌≡◌, ◌<◌, ◌≤◌, ◌%◌, ◌^◌, ℕ, List, Option, Result, IfErr, IsTrue, slice_index}
+use Rattle.std.specs.Prelude.{◌≡◌, ◌<◌, ◌≤◌, ◌%◌, ◌^◌, ℕ, Bool, List, Option, Result, IfErr, IsTrue, slice_index}
 use Rattle.grid_types.specs.declared.owner.Owner.{Owner}
 use Rattle.grid_types.specs.declared.owner.Owner.TheVariants.{Bucket, Part}
+use Rattle.grid_types.specs.declared.query.Side.{Side}
 use Rattle.grid_types.specs.declared.refusal.Refusal.{Refusal}
-use Rattle.grid_types.specs.declared.refusal.Refusal.TheVariants.{ReadFault, Damaged}
+use Rattle.grid_types.specs.declared.refusal.Refusal.TheVariants.{NoMemory, ReadFault, Damaged}
 use Rattle.grid_types.specs.declared.sizes.TheConstants.{WORDS_ON_PAGE}
 use Rattle.grid_model.specs.Lists.{is_among}
 use Rattle.grid_model.specs.Cells.{dims, cell_of, cell_index, part_of}
+use Rattle.grid_model.specs.ScaleLaws.{IsCell}
 use Rattle.grid_model.specs.Tables.{get, pairs_of}
 use Rattle.grid_model.specs.Spellings.{BucketOf}
-use Rattle.grid_model.specs.Expected.{Sought, SoughtKey, IsExpectedPart, IsExpectedBucket}
+use Rattle.grid_model.specs.Expected.{Sought, SoughtKey, SoughtCell, IsExpectedPart, IsExpectedBucket}
 use Rattle.history_pages.specs.SpellingLaws.{cells_in_part}
+use Rattle.linear_scales.specs.Queries.{MeetsQuery}
 use Rattle.disk_trait.specs.Causes.{Rose}
 use Rattle.query_paths.specs.Pinned.{Place, IsPageOf}
 
@@ -65,3 +68,22 @@ IsGetRefusal K p before now key bytes _ = ⊥
 pub record HasGetCause {T : Type 0} (K : ℕ) (p : Place) (before now : ℕ) (key bytes : List ℕ) (result : Result T Refusal) : Type 0 where
   pub later : before ≤ now
   pub refused : IfErr result (IsGetRefusal K p before now key bytes)
+
+-- a page that was read for a cell in which a key matches is not the expected one
+pub record IsUnexpectedMet (K : ℕ) (p : Place) (sides : List Side) (part_bytes bucket_bytes : List ℕ) (at : ℕ) : Type 0 where
+  pub cell : List ℕ
+  pub is_cell : IsCell (dims p.scales) cell
+  pub met : MeetsQuery K p.scales sides cell
+  pub unexpected : IsUnexpected K p cell (SoughtCell p.scales cell) part_bytes bucket_bytes at
+
+-- a count or a listing may be refused so: a reading failed, there is no memory where it may lack, or one of the two pages that were read last is not the expected one, and is that page of the file
+abbrev pub IsQueryRefusal : ℕ → Bool → Place → List Side → List ℕ → List ℕ → ℕ → ℕ → Refusal → Type 0
+IsQueryRefusal K lacks p sides part_bytes bucket_bytes before now NoMemory = IsTrue lacks
+IsQueryRefusal K lacks p sides part_bytes bucket_bytes before now ReadFault = Rose before now
+IsQueryRefusal K lacks p sides part_bytes bucket_bytes before now (Damaged at) = IsUnexpectedMet K p sides part_bytes bucket_bytes at
+IsQueryRefusal K lacks p sides part_bytes bucket_bytes before now _ = ⊥
+
+-- a query's count of failures does not fall, and a refusal has its cause
+pub record HasQueryCause (K : ℕ) {T : Type 0} (lacks : Bool) (p : Place) (sides : List Side) (part_bytes bucket_bytes : List ℕ) (before now : ℕ) (result : Result T Refusal) : Type 0 where
+  pub later : before ≤ now
+  pub refused : IfErr result (IsQueryRefusal K lacks p sides part_bytes bucket_bytes before now)

@@ -1,9 +1,14 @@
 //! How a get, a count and a listing go over directory and bucket pages, wherever the pages come from.
 #![tactic(auto)]
 
+mod gathering;
 mod getting;
+mod marks;
 mod pinned;
 mod reading;
+mod room;
+mod walking;
 
 pub use getting::exact;
 pub use pinned::Pinned;
+pub use room::Room;

@@ -1,10 +1,12 @@
 //! The pages of a file at one place of its history, as those see them who read.
-ghost use Rattle.std.specs.Prelude.{◌≡◌, ◌<◌, ◌≤◌, ◌*◌, ◌↔◌, ℕ, List, Option, None, IsTrue, IsSome, IfOk};
+ghost use Rattle.std.specs.Prelude.{◌≡◌, ◌<◌, ◌≤◌, ◌*◌, ◌↔◌, ℕ, List, Option, None, IsTrue, IsSome, IfOk, length};
 ghost use Rattle.grid_types.specs.declared.shape.Shape.{Shape};
 ghost use Rattle.grid_types.specs.declared.owner.Owner.{Owner};
 ghost use Rattle.grid_types.specs.declared.owner.Owner.TheVariants.{Bucket, Part};
 ghost use Rattle.grid_types.specs.declared.sizes.TheConstants.{MOST_RECORDS};
+ghost use Rattle.grid_types.specs.Keys.{IsKey};
 ghost use Rattle.grid_types.specs.Queries.{is_lawful};
+ghost use Rattle.grid_types.specs.Regions.{contains, IsRegion};
 ghost use Rattle.grid_model.specs.Lists.{is_among};
 ghost use Rattle.grid_model.specs.Cells.{dims, cells, cell_of, InCellBox};
 ghost use Rattle.grid_model.specs.ScaleLaws.{IsCell};
@@ -14,7 +16,7 @@ ghost use Rattle.query_paths.specs.Pinned.{StaysPinned, IsRead, IsReadIfThere, T
 
 use disk_trait::{DiskFailed, Steps};
 use grid_cells::Dims;
-use grid_types::{CellBox, Key, PAGE_BYTES, Query};
+use grid_types::{CellBox, Key, PAGE_BYTES, Query, Region};
 use std::sync::ledger::Ledger;
 
 /// The pages of a file as one place of its history has them.
@@ -50,7 +52,8 @@ pub trait Pinned<const K: usize> {
 
     /// How many intervals each attribute has.
     fn dims(&self) -> Dims<K>
-        ensures { result.intervals ≡ dims (scales self.now) };
+        ensures value { result.intervals ≡ dims (scales self.now) }
+        ensures count { length (scales self.now) ≡ K };
 
     /// The cell of a key.
     fn cell_of(&self, key: &Key<K>) -> [u32; K]
@@ -65,6 +68,14 @@ pub trait Pinned<const K: usize> {
         ensures meets { (cell : List ℕ)
             → IsCell (dims (scales self.now)) cell
             → MeetsQuery K (scales self.now) query.now.sides cell ↔ InCellBox result cell };
+
+    /// The keys of a cell, as a region.
+    fn keys_of(&self, cell: &[u32; K]) -> Region<K>
+        requires { IsCell (dims (scales self.now)) cell.now }
+        ensures some { IsRegion K result }
+        ensures keys { (key : List ℕ)
+            → IsKey K key
+            → IsTrue (contains result key) ↔ (cell_of (scales self.now) key ≡ cell.now) };
 
     /// Reads the page of a directory part, and answers which page of the file it is. After a failure `page` holds anything.
     fn read_part<L: Ledger>(

@@ -20,7 +20,7 @@ pub returns-in_err-directory-clause-cause : goal.returns-in_err-directory-clause
 returns-in_err-directory-clause-cause g c =
     let p = err_from_is_err_and c.from_residual.result c.from_residual.ensures.1 in
     let old = place g.Q.Pinned c.args.pinned.now in
-    let at = at-cell old.scales c.dims.result.intervals (cell_of old.scales c.args.key.now.numbers) c.cell_of.result c.index.result c.part_of-part.result c.dims.ensures c.cell_of.ensures.value c.index.ensures.value c.part_of-part.ensures in
+    let at = at-cell old.scales c.dims.result.intervals (cell_of old.scales c.args.key.now.numbers) c.cell_of.result c.index.result c.part_of-part.result c.dims.ensures.value c.cell_of.ensures.value c.index.ensures.value c.part_of-part.ensures in
     let low : c.part_of-part.result.0 < 2 ^ 32 = omega (arith, c.index.ensures.below, c.dims.result.lawful.few, ap (λ (r : ℕ × ℕ). r.0) c.part_of-part.ensures) in
     rw (p.1, p.2) (part-cause g.row.K old (g.Q.Pinned.faults c.args.pinned.now) (g.Q.Pinned.faults c.read_directory.new.pinned) c.args.key.now.numbers c.part_of-part.result.0 c.read_directory.new.page c.in_err-directory.field-0.0 at.0 low c.read_directory.ensures.later (rw c.in_err-directory.was at c.read_directory.ensures.read))
 
@@ -34,7 +34,7 @@ returns-in_err-at-clause-cause g c =
     let old = place g.Q.Pinned c.args.pinned.now in
     let mid = g.Q.Pinned.faults c.read_directory.new.pinned in
     let now = g.Q.Pinned.faults c.read_spelled.new.pinned in
-    let at = at-cell old.scales c.dims.result.intervals (cell_of old.scales c.args.key.now.numbers) c.cell_of.result c.index.result c.part_of-part.result c.dims.ensures c.cell_of.ensures.value c.index.ensures.value c.part_of-part.ensures in
+    let at = at-cell old.scales c.dims.result.intervals (cell_of old.scales c.args.key.now.numbers) c.cell_of.result c.index.result c.part_of-part.result c.dims.ensures.value c.cell_of.ensures.value c.index.ensures.value c.part_of-part.ensures in
     let low : c.part_of-part.result.0 < 2 ^ 32 = omega (arith, c.index.ensures.below, c.dims.result.lawful.few, ap (λ (r : ℕ × ℕ). r.0) c.part_of-part.ensures) in
     let good : IsGoodPart old c.part_of-part.result.0 c.read_directory.new.page c.in_ok-directory.directory = c.in_ok-directory.ensures.read in
     let part = part-of-key old (cell_of old.scales c.args.key.now.numbers) c.part_of-part.result.0 c.part_of-part.result.1 c.read_directory.new.page c.in_ok-directory.directory c.bucket_at-number.result at low (subst (λ (d : List ℕ). IsCell (dims old.scales) d) c.cell_of.ensures.value c.cell_of.ensures.inside) good c.bucket_at-number.ensures.cell in
@@ -48,7 +48,7 @@ returns-in_err-at-clause-honest g c = λ L t pin.
 pub returns-then-not-contains-clause-cause : goal.returns-then-not-contains-clause-cause
 returns-then-not-contains-clause-cause g c =
     let old = place g.Q.Pinned c.args.pinned.now in
-    let at = at-cell old.scales c.dims.result.intervals (cell_of old.scales c.args.key.now.numbers) c.cell_of.result c.index.result c.part_of-part.result c.dims.ensures c.cell_of.ensures.value c.index.ensures.value c.part_of-part.ensures in
+    let at = at-cell old.scales c.dims.result.intervals (cell_of old.scales c.args.key.now.numbers) c.cell_of.result c.index.result c.part_of-part.result c.dims.ensures.value c.cell_of.ensures.value c.index.ensures.value c.part_of-part.ensures in
     let low : c.part_of-part.result.0 < 2 ^ 32 = omega (arith, c.index.ensures.below, c.dims.result.lawful.few, ap (λ (r : ℕ × ℕ). r.0) c.part_of-part.ensures) in
     let good : IsGoodPart old c.part_of-part.result.0 c.read_directory.new.page c.in_ok-directory.directory = c.in_ok-directory.ensures.read in
     let part = part-of-key old (cell_of old.scales c.args.key.now.numbers) c.part_of-part.result.0 c.part_of-part.result.1 c.read_directory.new.page c.in_ok-directory.directory c.bucket_at-number.result at low (subst (λ (d : List ℕ). IsCell (dims old.scales) d) c.cell_of.ensures.value c.cell_of.ensures.inside) good c.bucket_at-number.ensures.cell in
@@ -69,7 +69,7 @@ pub returns-clause-expected : goal.returns-clause-expected
 returns-clause-expected g c =
     let old = place g.Q.Pinned c.args.pinned.now in
     let bytes = c.read_spelled.new.page in
-    let at = at-cell old.scales c.dims.result.intervals (cell_of old.scales c.args.key.now.numbers) c.cell_of.result c.index.result c.part_of-part.result c.dims.ensures c.cell_of.ensures.value c.index.ensures.value c.part_of-part.ensures in
+    let at = at-cell old.scales c.dims.result.intervals (cell_of old.scales c.args.key.now.numbers) c.cell_of.result c.index.result c.part_of-part.result c.dims.ensures.value c.cell_of.ensures.value c.index.ensures.value c.part_of-part.ensures in
     let low : c.part_of-part.result.0 < 2 ^ 32 = omega (arith, c.index.ensures.below, c.dims.result.lawful.few, ap (λ (r : ℕ × ℕ). r.0) c.part_of-part.ensures) in
     let good : IsGoodPart old c.part_of-part.result.0 c.read_directory.new.page c.in_ok-directory.directory = c.in_ok-directory.ensures.read in
     let part = part-of-key old (cell_of old.scales c.args.key.now.numbers) c.part_of-part.result.0 c.part_of-part.result.1 c.read_directory.new.page c.in_ok-directory.directory c.bucket_at-number.result at low (subst (λ (d : List ℕ). IsCell (dims old.scales) d) c.cell_of.ensures.value c.cell_of.ensures.inside) good c.bucket_at-number.ensures.cell in
