@@ -5,6 +5,6 @@ pub mod PageNumbers
 mod Vectors
 pub mod HalvesLemmas
 pub mod Zipped
-mod Meeting
+pub mod Meeting
 pub mod Parted
 mod Adjoining

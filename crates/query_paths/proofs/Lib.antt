@@ -9,3 +9,8 @@ pub mod Refusing
 pub mod Visits
 pub mod Coming
 pub mod Stepping
+pub mod Boxed
+pub mod Rowed
+pub mod Wholly
+pub mod Queried
+pub mod Counts

@@ -149,14 +149,15 @@ module _ {K : ℕ} (p : Place) (q : Query K) (b : CellBox K) (i : ℕ) (start : 
             by (inr r) = let x = among-numbers (λ (y : BucketOf K). y.number) w.read m r in let f = w.reading.each x.0 x.1 in (f.cell, f.is_in, subst (NamesBucket p f.cell) x.2 f.names)
 
         -- a walk that is refused where it reads the bucket was cut short
-        pub cut-at-bucket : (after : ℕ) → after ≤ now + 1 → IsCutShort p b start after
-        cut-at-bucket after l = record {
+        pub cut-at-bucket : (after : ℕ) → now ≤ after → after ≤ now + 1 → IsCutShort p b start after
+        cut-at-bucket after least l = record {
           parts = w.parts;
           numbers = n ∷ numbers_of w.read;
           distinct_parts = w.reading.distinct_parts;
           each_part = w.reading.each_part;
           distinct = distinct-more n (numbers_of w.read) out w.reading.distinct;
           each = each-number;
+          least = omega (arith, least, w.steps);
           most = omega (arith, l, w.steps, length-map w.read (λ (y : BucketOf K). y.number));
         }
 
@@ -211,13 +212,14 @@ module _ {K : ℕ} (p : Place) (q : Query K) (b : CellBox K) (i : ℕ) (start : 
                       ∙ ap (λ t. t || is_among (numbers_of w.read) m) (sym (ap (λ k. k == m) is_n ∙ e))
 
     -- a walk that is refused where it reads a part was cut short
-    pub cut-at-part : (old : Room K) (before after : ℕ) (w : IsWalked p q b i old start before H) → ((h : Held) → old.held ≡ Some h → h.part ≡ i / WORDS_ON_PAGE → ⊥) → after ≤ before + 1 → IsCutShort p b start after
-    cut-at-part old before after w other l = record {
+    pub cut-at-part : (old : Room K) (before after : ℕ) (w : IsWalked p q b i old start before H) → ((h : Held) → old.held ≡ Some h → h.part ≡ i / WORDS_ON_PAGE → ⊥) → before ≤ after → after ≤ before + 1 → IsCutShort p b start after
+    cut-at-part old before after w other least l = record {
       parts = (i / WORDS_ON_PAGE) ∷ w.parts;
       numbers = numbers_of w.read;
       distinct_parts = distinct-more (i / WORDS_ON_PAGE) w.parts (unread old old before before 0 w other) w.reading.distinct_parts;
       each_part = each-more old old before before 0 w;
       distinct = w.reading.distinct;
       each = λ m r. let x = among-numbers (λ (y : BucketOf K). y.number) w.read m r in let f = w.reading.each x.0 x.1 in (f.cell, f.is_in, subst (NamesBucket p f.cell) x.2 f.names);
+      least = omega (arith, least, w.steps);
       most = omega (arith, l, w.steps, length-map w.read (λ (y : BucketOf K). y.number));
     }

@@ -1,13 +1,18 @@
 -- What a path over the pages of a place finds, and why it may find none.
-use Rattle.std.specs.Prelude.{◌≡◌, ◌<◌, ◌≤◌, ◌%◌, ◌^◌, ℕ, Bool, List, Option, Result, IfErr, IsTrue, slice_index}
+use Rattle.std.specs.Prelude.{◌≡◌, ◌<◌, ◌≤◌, ◌+◌, ◌%◌, ◌^◌, ℕ, Bool, List, map, filter, length, Option, Result, IfErr, IsTrue, slice_index}
 use Rattle.grid_types.specs.declared.owner.Owner.{Owner}
 use Rattle.grid_types.specs.declared.owner.Owner.TheVariants.{Bucket, Part}
+use Rattle.grid_types.specs.declared.query.Query.{Query}
 use Rattle.grid_types.specs.declared.query.Side.{Side}
+use Rattle.grid_types.specs.declared.region.Region.{Region}
+use Rattle.grid_types.specs.Queries.{begin_of, end_of}
+use Rattle.grid_types.specs.Regions.{meets}
 use Rattle.grid_types.specs.declared.refusal.Refusal.{Refusal}
 use Rattle.grid_types.specs.declared.refusal.Refusal.TheVariants.{NoMemory, ReadFault, Damaged}
 use Rattle.grid_types.specs.declared.sizes.TheConstants.{WORDS_ON_PAGE}
 use Rattle.grid_model.specs.Lists.{is_among}
-use Rattle.grid_model.specs.Cells.{dims, cell_of, cell_index, part_of}
+use Rattle.grid_model.specs.Cells.{dims, cell_of, cell_index, part_of, parts_holding}
+use Rattle.grid_model.specs.Layouts.{Layout}
 use Rattle.grid_model.specs.ScaleLaws.{IsCell}
 use Rattle.grid_model.specs.Tables.{get, pairs_of}
 use Rattle.grid_model.specs.Spellings.{BucketOf}
@@ -87,3 +92,26 @@ IsQueryRefusal K lacks p sides part_bytes bucket_bytes before now _ = ⊥
 pub record HasQueryCause (K : ℕ) {T : Type 0} (lacks : Bool) (p : Place) (sides : List Side) (part_bytes bucket_bytes : List ℕ) (before now : ℕ) (result : Result T Refusal) : Type 0 where
   pub later : before ≤ now
   pub refused : IfErr result (IsQueryRefusal K lacks p sides part_bytes bucket_bytes before now)
+
+-- the region of the keys that are asked for, from the least to the greatest
+abbrev pub asked : {K : ℕ} → Query K → Region K
+asked q = record { lo = map begin_of q.sides; hi = map end_of q.sides }
+
+-- how many pages a query takes: the directory parts that hold a cell that it meets, and the boxes that it meets
+unfoldable pub reads_of : {K : ℕ} → Layout K → Query K → ℕ
+reads_of L q = length (parts_holding L.scales (asked q)) + length (filter (λ e. meets e.1.region q.sides) L.boxes)
+
+-- a cell's bucket was judged: the page of the number that the directory names there spells a bucket of that number, and its region has the keys of a cell that the query meets and that names it
+pub record IsJudged (K : ℕ) (p : Place) (sides : List Side) (cell : List ℕ) : Type 0 where
+  pub number : ℕ
+  pub names : NamesBucket p cell number
+  pub other : List ℕ
+  pub other_met : MeetsQuery K p.scales sides other
+  pub other_names : NamesBucket p other number
+  pub bytes : List ℕ
+  pub bucket : BucketOf K
+  pub has : HasBucket p number (SoughtCell p.scales other) bytes bucket
+
+-- the bucket of each cell that a query meets was judged
+abbrev pub AreJudged : ℕ → Place → List Side → Type 0
+AreJudged K p sides = (cell : List ℕ) → IsCell (dims p.scales) cell → MeetsQuery K p.scales sides cell → IsJudged K p sides cell

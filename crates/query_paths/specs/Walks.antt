@@ -117,6 +117,7 @@ pub record IsNotHeld {K : ℕ} (p : Place) (part rose risen : ℕ) (old new : Ro
   pub other : (h : Held) → old.held ≡ Some h → h.part ≡ part → ⊥
   pub read : IsPartRead p rose risen part new.part.value (Err e)
   pub marks : new.marks ≡ old.marks
+  pub least : before ≤ now
   pub steps : now ≤ before + 1
 
 -- the page of a part is held now, or there is a cause
@@ -132,6 +133,7 @@ pub record IsCutShort {K : ℕ} (p : Place) (b : CellBox K) (start now : ℕ) : 
   pub each_part : (part : ℕ) → IsTrue (is_among parts part) → HasBoxCell p b part
   pub distinct : AreDistinct numbers
   pub each : (n : ℕ) → IsTrue (is_among numbers n) → (cell : List ℕ) × IsBoxCell p b cell × NamesBucket p cell n
+  pub least : start ≤ now
   pub most : now ≤ start + (length parts + length numbers)
 
 -- the box of the cells that a query meets: from the cell of the least key that is asked for to that of the greatest

@@ -1,6 +1,7 @@
 //! How a get, a count and a listing go over directory and bucket pages, wherever the pages come from.
 #![tactic(auto)]
 
+mod counting;
 mod gathering;
 mod getting;
 mod marks;
@@ -9,6 +10,7 @@ mod reading;
 mod room;
 mod walking;
 
+pub use counting::count_rows;
 pub use getting::exact;
 pub use pinned::Pinned;
 pub use room::Room;

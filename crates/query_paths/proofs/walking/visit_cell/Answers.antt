@@ -26,7 +26,7 @@ returns-in_err-directory-clause-reads g c = λ b L t start pin inside w.
     let e = err_from_is_err_and c.from_residual.result c.from_residual.ensures.1 in
     let first : c.part_of-part.result.0 ≡ c.args.index / WORDS_ON_PAGE = ap (λ (x : ℕ × ℕ). x.0) c.part_of-part.ensures in
     let is_in : IsBoxCell p b c.args.cell.now = record { is_cell = c.requires.cell; inside = inside } in
-    rw e.1 (cut-at-part p c.args.query.now b c.args.index start (g.G.Gather.holds c.args.gathering.now) c.args.cell.now is_in c.requires.at c.args.room.now c.args.steps.now c.hold.new.steps w (λ h is same. c.in_err-directory.ensures.held.other h is (same ∙ sym first)) c.in_err-directory.ensures.held.steps)
+    rw e.1 (cut-at-part p c.args.query.now b c.args.index start (g.G.Gather.holds c.args.gathering.now) c.args.cell.now is_in c.requires.at c.args.room.now c.args.steps.now c.hold.new.steps w (λ h is same. c.in_err-directory.ensures.held.other h is (same ∙ sym first)) c.in_err-directory.ensures.held.least c.in_err-directory.ensures.held.steps)
 
 pub returns-then-not-has-clause-cause : goal.returns-then-not-has-clause-cause
 returns-then-not-has-clause-cause g c =
@@ -86,7 +86,7 @@ returns-in_err-head-clause-reads g c = λ b L t start pin inside w.
     let e = err_from_is_err_and c.from_residual-in_err-head.result c.from_residual-in_err-head.ensures.1 in
     let among = pinned-among p L t pin c.args.cell.now c.requires.cell c.part_of-part.result.0 c.hold.new.room.part.value c.in_ok-directory.directory n part in
     let names = part-names p c.args.cell.now c.part_of-part.result.0 c.hold.new.room.part.value c.in_ok-directory.directory n part among in
-    rw e.1 (cut-at-bucket p c.args.query.now b i start H c.args.cell.now is_in c.requires.at c.hold.new.room c.hold.new.steps held n names out c.read_for_cell.new.steps c.in_err-head.ensures.reads.1)
+    rw e.1 (cut-at-bucket p c.args.query.now b i start H c.args.cell.now is_in c.requires.at c.hold.new.room c.hold.new.steps held n names out c.read_for_cell.new.steps c.in_err-head.ensures.reads.0 c.in_err-head.ensures.reads.1)
 
 pub returns-in_default-clause-reads : goal.returns-in_default-clause-reads
 returns-in_default-clause-reads g c = λ b L t start pin inside w.
@@ -102,7 +102,7 @@ returns-in_default-clause-reads g c = λ b L t start pin inside w.
     let out : is_among (numbers_of held.walked.read) n ≡ false = sym (held.walked.marked n) ∙ sym c.is_marked.ensures ∙ c.if-is_marked.false in
     let good = subst (λ (x : Place). IsGoodForCell g.row.K x c.args.cell.now n c.read_for_cell.new.page c.in_ok-head.head) c.in_ok-directory.ensures.same.same_place c.in_ok-head.ensures.read in
     let names = part-names p c.args.cell.now c.part_of-part.result.0 c.hold.new.room.part.value c.in_ok-directory.directory n part good.named in
-    cut-at-bucket p c.args.query.now b i start H c.args.cell.now is_in c.requires.at c.hold.new.room c.hold.new.steps held n names out c.read_for_cell.new.steps (omega (arith, c.in_ok-head.ensures.reads))
+    cut-at-bucket p c.args.query.now b i start H c.args.cell.now is_in c.requires.at c.hold.new.room c.hold.new.steps held n names out c.read_for_cell.new.steps (omega (arith, c.in_ok-head.ensures.reads)) (omega (arith, c.in_ok-head.ensures.reads))
 
 pub returns-clause-walked : goal.returns-clause-walked
 returns-clause-walked g c = λ b start inside w.
