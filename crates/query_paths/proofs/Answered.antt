@@ -1,18 +1,14 @@
 -- What a get answers where the place has the pages of a layout and a table.
-use Rattle.std.proofs.Common.{◌≡◌, ◌<◌, ℕ, Bool, true, false, cond, List, length, Option, Some, None, refl, sym, ap, ◌∙◌, subst, arith}
-use Rattle.std.proofs.lemmas.List.{length-map}
+use Rattle.std.proofs.Common.{◌≡◌, ℕ, Bool, true, cond, List, Option, None, refl, sym, ap, ◌∙◌, subst}
 use Rattle.std.specs.FinMap.Entries.{find-where_key}
-use Rattle.grid_types.specs.declared.refusal.Refusal.{Refusal}
-use Rattle.grid_types.specs.declared.shape.Shape.{Shape}
 use Rattle.grid_types.specs.Keys.{IsKey, key_cmp}
 use Rattle.grid_types.specs.Regions.{contains}
 use Rattle.grid_model.specs.Cells.{dims, cell_of}
 use Rattle.grid_model.specs.ScaleLaws.{IsCell}
 use Rattle.grid_model.specs.Tables.{Table, get, pairs_of}
 use Rattle.grid_model.specs.Layouts.{BucketBox, Layout, records_inside}
-use Rattle.grid_model.specs.LayoutLaws.{StandsOver}
 use Rattle.grid_model.specs.Spellings.{BucketOf}
-use Rattle.grid_model.specs.Expected.{Sought, SoughtKey}
+use Rattle.grid_model.specs.Expected.{SoughtKey}
 use Rattle.grid_model.specs.Images.{bucket_on}
 use Rattle.grid_model.proofs.CellLaws.{have-indices}
 use Rattle.grid_model.proofs.Divided.{pairs-of-records}

@@ -1,14 +1,13 @@
 -- The cells of a box as a list, and the parts that hold one of them.
-use Rattle.std.proofs.Common.{◌≡◌, ◌<◌, ◌≤◌, ◌+◌, ◌-◌, ◌*◌, ◌/◌, ◌==◌, ◌⊎◌, inl, inr, ℕ, zero, suc, Bool, true, false, true≢false, List, [], ◌∷◌, length, get_or, map, filter, slice_index, IsTrue, Contains, refl, sym, ap, ◌∙◌, subst, arith, eqb-true, eq-eqb}
+use Rattle.std.proofs.Common.{◌≡◌, ◌<◌, ◌≤◌, ◌+◌, ◌-◌, ◌==◌, ◌⊎◌, inl, inr, ℕ, zero, suc, Bool, true, true≢false, List, [], ◌∷◌, length, get_or, map, slice_index, IsTrue, Contains, refl, sym, ap, subst, arith, eqb-true, eq-eqb}
 use Rattle.std.proofs.lemmas.Bool.{or_cases}
 use Rattle.std.proofs.lemmas.List.Folds.{list_any_at}
 use Rattle.std.specs.List.{list_any}
 use Rattle.grid_types.specs.declared.region.Region.{Region}
-use Rattle.grid_types.specs.declared.sizes.TheConstants.{WORDS_ON_PAGE}
 use Rattle.grid_types.specs.Lists.{zip_with}
 use Rattle.grid_types.specs.Regions.{Within}
 use Rattle.grid_model.specs.Lists.{below, from_to, choices, is_among, AreDistinct}
-use Rattle.grid_model.specs.Cells.{dims, cells, parts, part_of, cells_of, cell_of, parts_holding}
+use Rattle.grid_model.specs.Cells.{dims, parts, part_of, cells_of, parts_holding}
 use Rattle.grid_model.specs.ScaleLaws.{IsCell}
 use Rattle.grid_model.proofs.Counts.{filter-distinct, range-distinct}
 use Rattle.grid_model.proofs.Members.{contains-first, contains-later, contains-split, contains-none, contains-map, contains-from-map, contains-flat, contains-from-flat, contains-range, contains-from-range, contains-filter, contains-from-filter, among-from-contains, contains-among}

@@ -1,5 +1,5 @@
 -- A region has all keys of a cell where it has the cell's two corners.
-use Rattle.std.proofs.Common.{◌≡◌, ◌<◌, ◌≤◌, ◌↔◌, ◌&&◌, ℕ, Bool, true, false, List, length, slice_index, nat_le, IsTrue, refl, sym, ap, ◌∙◌, arith, true≢false}
+use Rattle.std.proofs.Common.{◌≡◌, ◌↔◌, ◌&&◌, ℕ, Bool, true, false, List, nat_le, IsTrue, refl, sym, ◌∙◌, arith}
 use lib.Pointwise.{pointwise}
 use Rattle.grid_types.specs.declared.region.Region.{Region}
 use Rattle.grid_types.specs.Keys.{IsKey}

@@ -1,25 +1,23 @@
 -- What is known where a walk comes to a cell.
-use Rattle.std.proofs.Common.{◌≡◌, ◌<◌, ◌≤◌, ◌^◌, ◌/◌, ◌%◌, ◌*◌, ℕ, Bool, true, false, List, length, slice_index, slice_index_or, All, Option, Some, Result, Ok, Err, IsTrue, IfErr, Contains, refl, sym, ap, ◌∙◌, subst, arith, true≢false}
+use Rattle.std.proofs.Common.{◌≡◌, ◌<◌, ◌≤◌, ◌/◌, ◌%◌, ◌*◌, ℕ, Bool, true, false, List, All, Err, IsTrue, refl, sym, ap, ◌∙◌, subst, arith, true≢false}
 use Rattle.grid_types.specs.declared.cell_box.CellBox.{CellBox}
 use Rattle.grid_types.specs.declared.refusal.Refusal.{Refusal}
 use Rattle.grid_types.specs.declared.refusal.Refusal.TheVariants.{ReadFault, Damaged}
-use Rattle.grid_types.specs.declared.sizes.TheConstants.{WORDS_ON_PAGE}
 use Rattle.grid_model.specs.Lists.{is_among}
-use Rattle.grid_model.specs.Cells.{dims, cells, cell_of, cell_index, part_of}
+use Rattle.grid_model.specs.Cells.{dims, cells, cell_index, part_of}
 use Rattle.grid_model.specs.ScaleLaws.{IsCell}
 use Rattle.grid_model.specs.Spellings.{BucketOf}
-use Rattle.grid_model.specs.Expected.{Sought, SoughtCell, IsSought}
+use Rattle.grid_model.specs.Expected.{SoughtCell}
 use Rattle.grid_model.specs.Layouts.{Layout}
 use Rattle.grid_model.specs.Tables.{Table}
 use Rattle.grid_model.proofs.Members.{contains-among}
-use Rattle.disk_trait.specs.Causes.{Rose}
 use Rattle.query_paths.specs.declared.room.Room.{Room}
 use Rattle.query_paths.specs.Pinned.{Place, IsPinnedTo}
-use Rattle.query_paths.specs.Paths.{index_in_part, NamesBucket, IsUnexpected, AsBucket}
-use Rattle.query_paths.specs.Readings.{IsGoodPart, IsCellBucketRead, IsDamagedForCell, NamesNothing, Unexpected}
-use Rattle.query_paths.specs.Walks.{IsHeldGood, IsHeldBy, Kept, Fresh, IsReading, HasCellCause, IsCellRefusal, numbers_of}
+use Rattle.query_paths.specs.Paths.{index_in_part, IsUnexpected, AsBucket}
+use Rattle.query_paths.specs.Readings.{IsCellBucketRead, IsDamagedForCell, NamesNothing, Unexpected}
+use Rattle.query_paths.specs.Walks.{IsHeldGood, IsHeldBy, Kept, Fresh, IsReading, HasCellCause, numbers_of}
 use Rattle.query_paths.proofs.Distinct.{among-numbers}
-use Rattle.query_paths.proofs.Judged.{IsNumberAt, part-inside, names-bucket, nameless}
+use Rattle.query_paths.proofs.Judged.{IsNumberAt, part-inside, nameless}
 use Rattle.query_paths.proofs.Naming.{place_over, pinned-place, as-expected}
 use Rattle.query_paths.proofs.Refusing.{IsPartOf, part-of-key, part-names, at-cell, rose-later}
 use Rattle.query_paths.proofs.Visits.{held-good}

@@ -1,10 +1,10 @@
 -- From pages as they were judged to what a path says of them.
-use Rattle.std.proofs.Common.{◌≡◌, ◌<◌, ◌≤◌, ◌*◌, ◌/◌, ◌%◌, ◌^◌, ℕ, Bool, true, false, List, length, slice_index, Option, Some, None, IsTrue, IfNone, OnSome, IfSome, refl, sym, ap, ◌∙◌, subst, arith, true≢false}
+use Rattle.std.proofs.Common.{◌≡◌, ◌<◌, ◌≤◌, ◌*◌, ◌^◌, ℕ, true, false, List, length, slice_index, IsTrue, sym, ap, ◌∙◌, subst, arith, true≢false}
 use Rattle.grid_types.specs.declared.owner.Owner.TheVariants.{Bucket, Part}
 use Rattle.grid_types.specs.declared.sizes.TheConstants.{MOST_ATTRIBUTES, MOST_RECORDS, WORDS_ON_PAGE}
 use Rattle.grid_types.specs.Regions.{contains}
 use Rattle.grid_model.specs.Lists.{is_among}
-use Rattle.grid_model.specs.Cells.{dims, cells, cell_index, part_of}
+use Rattle.grid_model.specs.Cells.{dims, cells, part_of}
 use Rattle.grid_model.specs.ScaleLaws.{IsCell}
 use Rattle.grid_model.specs.Spellings.{BucketOf, directory_spelling}
 use Rattle.grid_model.specs.Buckets.{SpellsBucket}
@@ -17,7 +17,7 @@ use Rattle.bucket_page.proofs.Standing.{one_bucket_spelled}
 use Rattle.directory_pages.specs.Spelling.{SpellsPart, IsDirectoryPage}
 use Rattle.directory_pages.proofs.Standing.{part_there, one}
 use Rattle.query_paths.specs.Pinned.{Place}
-use Rattle.query_paths.specs.Paths.{index_in_part, IsPage, IsExpectedAt, NamesBucket, HasBucket, IsUnexpected, AsPart, AsBucket}
+use Rattle.query_paths.specs.Paths.{index_in_part, IsPage, NamesBucket, HasBucket, IsUnexpected, AsPart, AsBucket}
 use Rattle.query_paths.specs.Readings.{IsGoodPart, IsBadPart, IsGoodBucket, IsBadBucket}
 
 -- a cell's index in its part is one of the part's

@@ -14,3 +14,4 @@ pub mod Rowed
 pub mod Wholly
 pub mod Queried
 pub mod Counts
+pub mod Listed

@@ -1,5 +1,5 @@
 -- The bucket that the directory of a place names at a cell, where the place has the pages of a layout and a table.
-use Rattle.std.proofs.Common.{◌≡◌, ◌<◌, ◌≤◌, ◌+◌, ◌*◌, ◌/◌, ◌%◌, ◌^◌, ◌⊎◌, inl, inr, ℕ, Bool, true, false, List, map, take, drop, length, get_or, slice_get, slice_index, Option, Some, None, IsTrue, IsSome, is_some, refl, sym, ap, ◌∙◌, subst, arith, true≢false, nat_lt, lt-ltb, option_map, nat_cmp}
+use Rattle.std.proofs.Common.{◌≡◌, ◌<◌, ◌≤◌, ◌*◌, ◌^◌, ◌⊎◌, inl, inr, ℕ, true, List, map, drop, length, slice_index, Option, Some, None, IsTrue, IsSome, is_some, refl, sym, ap, ◌∙◌, arith, true≢false, option_map}
 use Rattle.std.proofs.lemmas.List.{length-map, get_or-take, get_or-drop, get_or_past}
 use Rattle.std.proofs.lemmas.Option.{slice_get-map, get_or_from_slice_get}
 use Rattle.std.proofs.lemmas.Bool.{cases_lt}
@@ -13,7 +13,7 @@ use Rattle.grid_types.specs.Regions.{contains}
 use Rattle.grid_types.proofs.Places.{within-limits}
 use Rattle.grid_model.specs.Lists.{is_among}
 use Rattle.grid_model.specs.Scales.{is_scale, scale_of, intervals}
-use Rattle.grid_model.specs.Cells.{dims, cells, parts, all_cells, cell_of, cell_index, corner, part_of}
+use Rattle.grid_model.specs.Cells.{dims, all_cells, cell_of, cell_index, corner, part_of}
 use Rattle.grid_model.specs.ScaleLaws.{IsCell}
 use Rattle.grid_model.specs.Tables.{Table}
 use Rattle.grid_model.specs.Layouts.{BucketBox, Layout, box, holder, number_at, directory, directory_part}
@@ -22,21 +22,19 @@ use Rattle.grid_model.specs.Lone.{owners}
 use Rattle.grid_model.specs.Spellings.{BucketOf}
 use Rattle.grid_model.specs.Buckets.{SpellsBucket}
 use Rattle.grid_model.specs.Images.{bucket_on}
-use Rattle.grid_model.specs.Expected.{Sought, IsSought, IsExpectedPart, IsExpectedBucket}
-use Rattle.grid_model.proofs.Boxes.{one-value, some-not-none}
+use Rattle.grid_model.specs.Expected.{Sought, IsSought, IsExpectedPart}
 use Rattle.grid_model.proofs.CellLaws.{have-indices}
 use Rattle.grid_model.proofs.Holders.{same-found, holder-box}
 use Rattle.grid_model.proofs.Indices.{cell_index-below}
 use Rattle.grid_model.proofs.LowestKeys.{corner-lies, corner-long, corner-number}
-use Rattle.grid_model.proofs.OneCell.{InOneCell, box-alike}
+use Rattle.grid_model.proofs.OneCell.{box-alike}
 use Rattle.history_pages.specs.OwnerPages.{owner_page}
 use Rattle.history_pages.specs.SpellingLaws.{cells_in_part}
 use Rattle.history_pages.proofs.Numbers.{found-where}
 use Rattle.history_pages.proofs.Spelled.{part-expected, bucket-spelled}
 use Rattle.bucket_page.proofs.Standing.{one_bucket_spelled}
-use Rattle.directory_pages.specs.Spelling.{SpellsPart}
 use Rattle.query_paths.specs.Pinned.{Place, IsPinnedTo}
-use Rattle.query_paths.specs.Paths.{index_in_part, IsPage, IsExpectedAt, NamesBucket, IsUnexpected, AsPart, AsBucket}
+use Rattle.query_paths.specs.Paths.{index_in_part, IsExpectedAt, NamesBucket, IsUnexpected, AsPart, AsBucket}
 use Rattle.query_paths.proofs.Judged.{index-inside, spells-part, one-part}
 
 -- a box has the keys of a cell

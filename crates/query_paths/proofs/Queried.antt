@@ -1,19 +1,16 @@
 -- What a count and a listing answer, and why they are refused.
-use Rattle.std.proofs.Common.{◌≡◌, ◌≤◌, ℕ, Bool, true, false, List, length, count_by, Result, Ok, Err, IfErr, IsTrue, refl, sym, ap, ◌∙◌, subst, arith, true≢false}
+use Rattle.std.proofs.Common.{◌≡◌, inl, inr, ℕ, Bool, true, false, List, Err, IsTrue, refl, sym, subst, true≢false}
 use Rattle.grid_types.specs.declared.query.Query.{Query}
 use Rattle.grid_types.specs.declared.query.Side.{Side}
 use Rattle.grid_types.specs.declared.refusal.Refusal.{Refusal}
 use Rattle.grid_types.specs.declared.refusal.Refusal.TheVariants.{NoMemory, ReadFault, Damaged}
-use Rattle.grid_model.specs.Cells.{dims}
-use Rattle.grid_model.specs.ScaleLaws.{IsCell}
 use Rattle.grid_model.specs.Expected.{SoughtCell}
 use Rattle.grid_model.specs.Layouts.{Layout}
 use Rattle.grid_model.specs.Tables.{Table}
 use Rattle.grid_model.specs.Spellings.{BucketOf}
-use Rattle.linear_scales.specs.Queries.{MeetsQuery}
 use Rattle.query_paths.specs.Pinned.{Place, IsPinnedTo}
-use Rattle.query_paths.specs.Paths.{IsQueryRefusal, HasQueryCause, IsJudged, AreJudged, NamesBucket, HasBucket}
-use Rattle.query_paths.specs.Walks.{IsWholeWalk, AreCellsMet, cells_met, numbers_of}
+use Rattle.query_paths.specs.Paths.{IsQueryRefusal, HasQueryCause, AreJudged, IsFaultOrLack, NamesBucket, HasBucket}
+use Rattle.query_paths.specs.Walks.{IsWholeWalk, AreCellsMet, cells_met}
 use Rattle.query_paths.proofs.Coming.{cell-expected}
 use Rattle.query_paths.proofs.Distinct.{among-numbers}
 
@@ -59,3 +56,8 @@ pub only-fault : (e : Refusal) → IsHonest false e → e ≡ ReadFault
 only-fault NoMemory h = absurd (true≢false (sym h))
 only-fault ReadFault h = refl
 only-fault _ h = absurd h
+
+pub fault-or-lack : (e : Refusal) → IsHonest true e → IsFaultOrLack e
+fault-or-lack NoMemory h = inr refl
+fault-or-lack ReadFault h = inl refl
+fault-or-lack _ h = absurd h

@@ -1,16 +1,15 @@
 -- Why a get is refused.
-use Rattle.std.proofs.Common.{◌≡◌, ◌<◌, ◌≤◌, ◌^◌, ◌/◌, ◌%◌, ℕ, List, slice_index, Result, Ok, Err, IfErr, IsTrue, refl, sym, ap, ◌∙◌, subst, arith}
+use Rattle.std.proofs.Common.{◌≡◌, ◌<◌, ◌≤◌, ◌^◌, ◌/◌, ◌%◌, ℕ, List, Result, Ok, Err, IfErr, IsTrue, refl, sym, ap, ◌∙◌, subst, arith}
 use Rattle.grid_types.specs.declared.refusal.Refusal.{Refusal}
 use Rattle.grid_types.specs.declared.refusal.Refusal.TheVariants.{ReadFault, Damaged}
 use Rattle.grid_types.specs.Keys.{IsKey}
 use Rattle.grid_model.specs.Lists.{is_among}
 use Rattle.grid_model.specs.Cells.{dims, cell_of, cell_index, part_of}
 use Rattle.grid_model.specs.ScaleLaws.{IsCell}
-use Rattle.grid_model.specs.Expected.{Sought, SoughtKey}
+use Rattle.grid_model.specs.Expected.{SoughtKey}
 use Rattle.grid_model.specs.Layouts.{Layout}
 use Rattle.grid_model.specs.Tables.{Table}
 use Rattle.disk_trait.specs.Causes.{Rose}
-use Rattle.bucket_page.specs.declared.head.Head.{Head}
 use Rattle.query_paths.specs.Pinned.{Place, IsPinnedTo}
 use Rattle.query_paths.specs.Paths.{index_in_part, IsUnexpected, IsGetRefusal, HasGetCause, NamesBucket}
 use Rattle.query_paths.specs.Readings.{IsGoodPart, IsPartRead, IsBucketRead, IsDamaged, Nameless, Unspelled}

@@ -1,5 +1,5 @@
 -- The records of buckets that together have each matching key once are those of the table.
-use Rattle.std.proofs.Common.{◌≡◌, ◌<◌, ◌≤◌, ◌+◌, ◌==◌, ◌&&◌, ◌⊎◌, inl, inr, ℕ, Bool, true, false, cond, List, [], ◌∷◌, length, map, filter, All, Contains, IsTrue, sum_by, count_by, refl, sym, ap, ◌∙◌, subst, arith, true≢false, eq-eqb, Some}
+use Rattle.std.proofs.Common.{◌≡◌, ◌≤◌, ◌+◌, ◌==◌, ◌&&◌, ◌⊎◌, inl, inr, ℕ, Bool, true, false, cond, List, [], ◌∷◌, length, map, filter, All, Contains, sum_by, count_by, refl, ap, ◌∙◌, arith, eq-eqb}
 use Rattle.std.proofs.lemmas.List.Elements.{All-head, All-tail}
 use Rattle.std.proofs.lemmas.List.Sums.{sum_by-cons}
 use Rattle.grid_types.specs.declared.query.Query.{Query}
@@ -7,7 +7,6 @@ use Rattle.grid_types.specs.declared.region.Region.{Region}
 use Rattle.grid_types.specs.Keys.{key_cmp}
 use Rattle.grid_types.specs.Queries.{matches}
 use Rattle.grid_types.specs.Regions.{contains}
-use Rattle.grid_model.specs.Lists.{is_among, AreDistinct}
 use Rattle.grid_model.specs.Listings.{rows}
 use Rattle.grid_model.specs.Tables.{Table}
 use Rattle.grid_model.specs.Layouts.{records_inside}

@@ -1,5 +1,5 @@
 -- From one cell of a walk to the next.
-use Rattle.std.proofs.Common.{◌≡◌, ◌<◌, ◌≤◌, ◌+◌, ◌/◌, ◌⊎◌, inl, inr, ℕ, zero, suc, Bool, true, false, List, [], ◌∷◌, length, map, slice_index, slice_index_or, replicate, Option, Some, None, Result, Err, IsTrue, Contains, refl, sym, ap, ◌∙◌, subst, arith, true≢false, le-leb, leb-true, nat_le}
+use Rattle.std.proofs.Common.{◌≡◌, ◌<◌, ◌≤◌, ◌+◌, ◌⊎◌, inl, inr, ℕ, zero, suc, Bool, true, false, List, [], ◌∷◌, length, map, slice_index, slice_index_or, replicate, None, Err, refl, sym, ap, ◌∙◌, subst, arith, true≢false, leb-true}
 use Rattle.std.proofs.lemmas.Bool.{cases_lt}
 use Rattle.std.proofs.lemmas.List.{length-map, get_or-replicate, get_or_past, length-replicate}
 use Rattle.std.specs.List.{list_all}
@@ -10,14 +10,10 @@ use Rattle.grid_types.specs.declared.query.Side.TheVariants.{Any, Exactly, Betwe
 use Rattle.grid_types.specs.declared.refusal.Refusal.{Refusal}
 use Rattle.grid_types.specs.declared.refusal.Refusal.TheVariants.{NoMemory, ReadFault, Damaged}
 use Rattle.grid_types.specs.Queries.{is_straight, is_lawful, begin_of, end_of}
-use Rattle.grid_types.specs.Regions.{Within}
 use Rattle.grid_types.proofs.Numbers.{first, second}
-use Rattle.grid_model.specs.Lists.{is_among, AreDistinct}
-use Rattle.grid_model.specs.Scales.{interval, intervals}
-use Rattle.grid_model.specs.Cells.{dims, cell_of, cell_index, InCellBox}
+use Rattle.grid_model.specs.Cells.{dims, cell_index, InCellBox}
 use Rattle.grid_model.specs.ScaleLaws.{IsCell}
 use Rattle.grid_model.specs.Tables.{Table}
-use Rattle.grid_model.specs.Spellings.{BucketOf}
 use Rattle.grid_model.proofs.Boxes.{some-not-none}
 use Rattle.grid_model.proofs.CellLaws.{have-indices}
 use Rattle.grid_model.proofs.Indices.{cell_index-grows}
@@ -25,11 +21,10 @@ use Rattle.grid_model.proofs.Members.{contains-none}
 use Rattle.grid_model.proofs.ScaleLaws.{interval-grows}
 use Rattle.linear_scales.specs.Queries.{lowest_cell, highest_cell, MeetsQuery}
 use Rattle.grid_cells.specs.CellBoxes.{IsNextInCellBox, IsLastInCellBox}
-use Rattle.query_paths.specs.declared.room.Held.{Held}
 use Rattle.query_paths.specs.declared.room.Room.{Room}
 use Rattle.query_paths.specs.Pinned.{Place}
 use Rattle.query_paths.specs.Paths.{HasQueryCause, IsQueryRefusal}
-use Rattle.query_paths.specs.Walks.{HasCellCause, IsCellRefusal, IsBoxCell, IsHeldGood, IsNamedAmong, IsReading, IsWalked, IsWholeWalk, cells_met, numbers_of}
+use Rattle.query_paths.specs.Walks.{HasCellCause, IsCellRefusal, IsBoxCell, IsWalked, IsWholeWalk, cells_met}
 use Rattle.query_paths.proofs.Refusing.{rose-later}
 
 -- a straight side does not end below its begin

@@ -1,12 +1,12 @@
 -- What a visit of a cell makes of a walk.
-use Rattle.std.proofs.Common.{◌≡◌, ◌<◌, ◌≤◌, ◌+◌, ◌*◌, ◌/◌, ◌==◌, ◌||◌, ◌⊎◌, inl, inr, ℕ, Bool, true, false, cond, List, ◌∷◌, ◌++◌, length, map, slice_index_or, slice_set, Option, Some, IsTrue, Contains, sum_by, count_by, refl, sym, ap, ◌∙◌, subst, arith, true≢false, length-append, eqb-true, eq-eqb}
+use Rattle.std.proofs.Common.{◌≡◌, ◌<◌, ◌≤◌, ◌+◌, ◌/◌, ◌==◌, ◌||◌, ◌⊎◌, inl, inr, ℕ, Bool, true, false, cond, List, ◌∷◌, ◌++◌, length, slice_index_or, slice_set, Some, IsTrue, Contains, count_by, refl, sym, ap, ◌∙◌, subst, arith, true≢false, length-append, eqb-true, eq-eqb}
 use Rattle.std.proofs.lemmas.Bool.{cases_lt}
 use Rattle.std.proofs.lemmas.List.{length-map, get_or-set_other, get_or-set_same}
 use Rattle.std.proofs.lemmas.List.Sums.{sum_by-cons, sum_by-append}
 use Rattle.grid_types.specs.declared.cell_box.CellBox.{CellBox}
 use Rattle.grid_types.specs.declared.query.Query.{Query}
 use Rattle.grid_types.specs.declared.sizes.TheConstants.{MOST_RECORDS, WORDS_ON_PAGE}
-use Rattle.grid_model.specs.Lists.{is_among, AreDistinct}
+use Rattle.grid_model.specs.Lists.{is_among}
 use Rattle.grid_model.specs.Cells.{dims, cell_index, part_of}
 use Rattle.grid_model.specs.Listings.{rows}
 use Rattle.grid_model.specs.Tables.{Table, pairs_of}
@@ -20,7 +20,7 @@ use Rattle.query_paths.specs.declared.room.Room.{Room}
 use Rattle.query_paths.specs.Pinned.{Place}
 use Rattle.query_paths.specs.Paths.{NamesBucket, HasBucket}
 use Rattle.query_paths.specs.Readings.{IsGoodPart}
-use Rattle.query_paths.specs.Walks.{IsBoxCell, HasBoxCell, IsHeldGood, IsHeldBy, Kept, Fresh, IsNamedAmong, IsReadFor, IsReading, IsWalked, IsCutShort, numbers_of}
+use Rattle.query_paths.specs.Walks.{IsBoxCell, HasBoxCell, IsHeldGood, IsHeldBy, Kept, Fresh, IsNamedAmong, IsReadFor, IsWalked, IsCutShort, numbers_of}
 use Rattle.query_paths.proofs.Distinct.{distinct-more, among-split, among-first, among-later, among-numbers}
 use Rattle.query_paths.proofs.Found.{few-rows}
 

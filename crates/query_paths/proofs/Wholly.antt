@@ -1,22 +1,21 @@
 -- What a walk has found and read where the place has the pages of a layout and a table.
-use Rattle.std.proofs.Common.{◌≡◌, ◌<◌, ◌≤◌, ◌+◌, ◌==◌, ◌↔◌, ◌⊎◌, inl, inr, ℕ, Bool, true, false, cond, List, [], ◌∷◌, length, map, filter, All, Contains, Option, Some, IsTrue, sum_by, count_by, refl, sym, ap, ◌∙◌, subst, arith, true≢false, nat_cmp, T}
+use Rattle.std.proofs.Common.{◌≡◌, ◌≤◌, ◌+◌, ◌==◌, ℕ, Bool, true, false, cond, List, [], ◌∷◌, length, map, filter, Contains, Some, IsTrue, count_by, refl, sym, ap, ◌∙◌, subst, arith, nat_cmp}
 use Rattle.std.proofs.lemmas.List.{length-map}
 use Rattle.std.specs.Ordering.{eq_by_cmp}
 use Rattle.std.specs.Cmp.{nat_cmp_total}
 use Rattle.std.specs.FinMap.{nat_cmp-IsAntisymmetric}
-use Rattle.std.specs.FinMap.Entries.{find, is_sorted}
+use Rattle.std.specs.FinMap.Entries.{find}
 use Rattle.grid_types.specs.declared.owner.Owner.{Owner}
 use Rattle.grid_types.specs.declared.query.Query.{Query}
 use Rattle.grid_types.specs.declared.shape.Shape.{Shape}
 use Rattle.grid_types.specs.Keys.{IsKey}
 use Rattle.grid_types.specs.Queries.{is_lawful, matches}
-use Rattle.grid_types.specs.Regions.{contains, meets, HaveKeyInCommon}
+use Rattle.grid_types.specs.Regions.{contains, meets}
 use Rattle.grid_types.proofs.Meeting.{met}
 use Rattle.grid_model.specs.Lists.{is_among, AreDistinct}
-use Rattle.grid_model.specs.Cells.{dims, cell_of, cells_of, part_of, parts_holding}
-use Rattle.grid_model.specs.ScaleLaws.{IsCell}
+use Rattle.grid_model.specs.Cells.{cell_of, parts_holding}
 use Rattle.grid_model.specs.Listings.{rows}
-use Rattle.grid_model.specs.Tables.{Table, get, pairs_of}
+use Rattle.grid_model.specs.Tables.{Table, pairs_of}
 use Rattle.grid_model.specs.Layouts.{BucketBox, Layout, box, records_inside}
 use Rattle.grid_model.specs.LayoutLaws.{StandsOver}
 use Rattle.grid_model.specs.Spellings.{BucketOf}
@@ -28,8 +27,7 @@ use Rattle.grid_model.proofs.Counts.{sorted-distinct}
 use Rattle.grid_model.proofs.Divided.{pairs-of-records}
 use Rattle.grid_model.proofs.Found.{one-number}
 use Rattle.grid_model.proofs.Gathered.{each-entry}
-use Rattle.grid_model.proofs.Members.{contains-first, contains-later, contains-none, contains-filter, contains-from-filter}
-use Rattle.linear_scales.specs.Queries.{MeetsQuery}
+use Rattle.grid_model.proofs.Members.{contains-first, contains-later, contains-filter, contains-from-filter}
 use Rattle.query_paths.specs.Pinned.{Place, IsPinnedTo}
 use Rattle.query_paths.specs.Paths.{NamesBucket, asked, reads_of}
 use Rattle.query_paths.specs.Walks.{IsBoxCell, HasBoxCell, IsWholeWalk, IsCutShort, AreCellsMet, cells_met, numbers_of}

@@ -1,5 +1,5 @@
 -- What a path over the pages of a place finds, and why it may find none.
-use Rattle.std.specs.Prelude.{◌≡◌, ◌<◌, ◌≤◌, ◌+◌, ◌%◌, ◌^◌, ℕ, Bool, List, map, filter, length, Option, Result, IfErr, IsTrue, slice_index}
+use Rattle.std.specs.Prelude.{◌≡◌, ◌<◌, ◌≤◌, ◌+◌, ◌%◌, ◌^◌, ◌⊎◌, ℕ, Bool, List, map, filter, length, Option, Result, IfErr, IsTrue, slice_index}
 use Rattle.grid_types.specs.declared.owner.Owner.{Owner}
 use Rattle.grid_types.specs.declared.owner.Owner.TheVariants.{Bucket, Part}
 use Rattle.grid_types.specs.declared.query.Query.{Query}
@@ -10,7 +10,6 @@ use Rattle.grid_types.specs.Regions.{meets}
 use Rattle.grid_types.specs.declared.refusal.Refusal.{Refusal}
 use Rattle.grid_types.specs.declared.refusal.Refusal.TheVariants.{NoMemory, ReadFault, Damaged}
 use Rattle.grid_types.specs.declared.sizes.TheConstants.{WORDS_ON_PAGE}
-use Rattle.grid_model.specs.Lists.{is_among}
 use Rattle.grid_model.specs.Cells.{dims, cell_of, cell_index, part_of, parts_holding}
 use Rattle.grid_model.specs.Layouts.{Layout}
 use Rattle.grid_model.specs.ScaleLaws.{IsCell}
@@ -115,3 +114,7 @@ pub record IsJudged (K : ℕ) (p : Place) (sides : List Side) (cell : List ℕ) 
 -- the bucket of each cell that a query meets was judged
 abbrev pub AreJudged : ℕ → Place → List Side → Type 0
 AreJudged K p sides = (cell : List ℕ) → IsCell (dims p.scales) cell → MeetsQuery K p.scales sides cell → IsJudged K p sides cell
+
+-- a refusal that says nothing of a page: a reading failed, or there is no memory
+abbrev pub IsFaultOrLack : Refusal → Type 0
+IsFaultOrLack e = (e ≡ ReadFault) ⊎ (e ≡ NoMemory)

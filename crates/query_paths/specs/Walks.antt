@@ -1,8 +1,7 @@
 -- A walk through the cells of a box, in the order of their indices: what was read, and what was found.
-use Rattle.std.specs.Prelude.{◌≡◌, ◌<◌, ◌≤◌, ◌+◌, ◌*◌, ◌/◌, ◌↔◌, ℕ, Bool, false, List, length, map, slice_index_or, Option, Some, Result, Ok, Err, IfErr, IsTrue, Contains, sum_by, count_by}
+use Rattle.std.specs.Prelude.{◌≡◌, ◌<◌, ◌≤◌, ◌+◌, ◌*◌, ◌/◌, ◌↔◌, ℕ, Bool, false, List, length, map, slice_index_or, Some, Result, Ok, Err, IfErr, IsTrue, Contains, sum_by, count_by}
 use Rattle.grid_types.specs.declared.cell_box.CellBox.{CellBox}
 use Rattle.grid_types.specs.declared.query.Query.{Query}
-use Rattle.grid_types.specs.declared.query.Side.{Side}
 use Rattle.grid_types.specs.declared.refusal.Refusal.{Refusal}
 use Rattle.grid_types.specs.declared.refusal.Refusal.TheVariants.{NoMemory, ReadFault, Damaged}
 use Rattle.grid_types.specs.declared.sizes.TheConstants.{MOST_RECORDS, WORDS_ON_PAGE}

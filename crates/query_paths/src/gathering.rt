@@ -58,3 +58,24 @@ impl<const K: usize> Gather<K> for Tally {
         Ok(())
     }
 }
+
+/// The records that were found, in the order in which their buckets were read.
+#[derive(Drop)]
+pub struct Listing<const K: usize> {
+    pub rows: Rows<K>,
+}
+
+impl<const K: usize> Gather<K> for Listing<K> {
+    ghost holds = { λ l found. pairs_of l.rows ≡ found };
+
+    ghost may_lack = { true };
+
+    fn gather(
+        &mut self,
+        page: &[u8; PAGE_BYTES],
+        count: usize,
+        query: &Query<K>,
+    ) -> Result<(), AllocError> {
+        push_matching(page, count, query, &mut self.rows)
+    }
+}

@@ -4,6 +4,7 @@
 mod counting;
 mod gathering;
 mod getting;
+mod listing;
 mod marks;
 mod pinned;
 mod reading;
@@ -12,5 +13,6 @@ mod walking;
 
 pub use counting::count_rows;
 pub use getting::exact;
+pub use listing::list_rows;
 pub use pinned::Pinned;
 pub use room::Room;

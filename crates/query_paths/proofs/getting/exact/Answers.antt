@@ -1,4 +1,4 @@
-use Rattle.std.proofs.Common.{◌≡◌, ◌<◌, ◌^◌, ℕ, false, List, Result, Ok, Err, Some, IsTrue, refl, sym, ap, ◌∙◌, subst, arith}
+use Rattle.std.proofs.Common.{◌≡◌, ◌<◌, ◌^◌, ℕ, false, List, Err, IsTrue, refl, sym, ap, ◌∙◌, subst, arith}
 use Rattle.std.proofs.lemmas.Result.{err_from_is_err_and}
 use Rattle.grid_types.specs.declared.refusal.Refusal.TheVariants.{Damaged}
 use Rattle.grid_types.specs.Regions.{contains}
@@ -6,14 +6,12 @@ use Rattle.grid_model.specs.Cells.{dims, cell_of}
 use Rattle.grid_model.specs.Expected.{SoughtKey}
 use Rattle.grid_model.specs.ScaleLaws.{IsCell}
 use Rattle.bucket_page.specs.OnPage.{bucket_told}
-use Rattle.directory_pages.specs.Spelling.{SpellsPart}
 use Rattle.query_paths.specs.Pinned.{Place}
 use Rattle.query_paths.specs.Calls.{place}
-use Rattle.query_paths.specs.Paths.{IsFound, HasGetCause}
-use Rattle.query_paths.specs.Readings.{IsPartRead, IsBucketRead, IsGoodPart, IsGoodBucket}
+use Rattle.query_paths.specs.Readings.{IsBucketRead, IsGoodPart, IsGoodBucket}
 use Rattle.query_paths.proofs.Judged.{has-bucket, wrong-bucket}
 use Rattle.query_paths.proofs.Answered.{answered}
-use Rattle.query_paths.proofs.Refusing.{IsPartOf, part-of-key, part-names, part-cause, bucket-cause, honest-get, at-cell}
+use Rattle.query_paths.proofs.Refusing.{part-of-key, part-names, part-cause, bucket-cause, honest-get, at-cell}
 use Rattle.query_paths.proofs.getting.exact.Goals as goal
 
 pub returns-in_err-directory-clause-cause : goal.returns-in_err-directory-clause-cause

@@ -1,4 +1,4 @@
-use Rattle.std.proofs.Common.{◌≡◌, IsTrue, IsSome, Some, refl, ap, ◌∙◌}
+use Rattle.std.proofs.Common.{IsTrue, ap}
 use Rattle.std.specs.Option.{is_some}
 use Rattle.grid_model.specs.Lists.{is_among}
 use Rattle.query_paths.specs.Readings.{Unspelled}

@@ -1,5 +1,4 @@
-use Rattle.std.proofs.Common.{◌≡◌, ◌∙◌, ℕ, List, sym, ap, arith, IsTrue, length}
-use Rattle.bucket_page.specs.OnPage.{bucket_told}
+use Rattle.std.proofs.Common.{◌∙◌, sym, arith}
 use Rattle.grid_model.specs.Expected.{SoughtCell}
 use Rattle.query_paths.specs.Calls.{place}
 use Rattle.query_paths.specs.Readings.{IsGoodBucket, Unexpected}

@@ -1,15 +1,14 @@
-use Rattle.std.proofs.Common.{◌≡◌, ◌<◌, ◌≤◌, ◌/◌, ◌%◌, ℕ, Bool, true, false, List, Some, IsTrue, length, slice_index_or, refl, sym, ap, ◌∙◌, subst, arith, true≢false}
+use Rattle.std.proofs.Common.{◌≡◌, ◌<◌, ◌/◌, ℕ, false, List, IsTrue, length, refl, sym, ap, ◌∙◌, subst, arith, true≢false}
 use Rattle.std.proofs.lemmas.Result.{err_from_is_err_and}
 use Rattle.bucket_page.specs.OnPage.{bucket_told}
 use Rattle.grid_model.specs.Buckets.{SpellsBucket}
 use Rattle.grid_model.specs.Lists.{is_among}
-use Rattle.grid_types.specs.declared.sizes.TheConstants.{MOST_RECORDS, WORDS_ON_PAGE}
-use Rattle.query_paths.specs.declared.room.Held.{Held}
+use Rattle.grid_types.specs.declared.sizes.TheConstants.{WORDS_ON_PAGE}
 use Rattle.query_paths.specs.Pinned.{Place}
 use Rattle.query_paths.specs.Calls.{place}
 use Rattle.query_paths.specs.Readings.{IsCellBucketRead, IsGoodForCell}
-use Rattle.query_paths.specs.Walks.{IsBoxCell, IsHeldBy, IsNotHeld, IsCutShort, HasCellCause, numbers_of}
-use Rattle.query_paths.proofs.Coming.{each-among, marks-kept, cell-at, part-there, held-part, names-none, cell-cause, read-among, cell-expected, pinned-among}
+use Rattle.query_paths.specs.Walks.{IsBoxCell, IsHeldBy, numbers_of}
+use Rattle.query_paths.proofs.Coming.{each-among, marks-kept, part-there, held-part, names-none, cell-cause, read-among, cell-expected, pinned-among}
 use Rattle.query_paths.proofs.Found.{few-many}
 use Rattle.query_paths.proofs.Refusing.{part-names}
 use Rattle.query_paths.proofs.Visits.{good-after, part-held, passed, cut-at-bucket, gathered, cut-at-part}

@@ -1,4 +1,4 @@
-use Rattle.std.proofs.Common.{◌≡◌, ◌<◌, ◌≤◌, ◌+◌, ◌↔◌, ℕ, Bool, false, All, List, Some, None, IsTrue, length, replicate, refl, sym, ap, ◌∙◌, subst, arith, rules}
+use Rattle.std.proofs.Common.{◌≡◌, ◌<◌, ◌+◌, ◌↔◌, ℕ, Bool, false, All, List, length, refl, sym, ap, ◌∙◌, subst, arith, rules}
 use Rattle.std.proofs.lemmas.List.{length-replicate}
 use Rattle.std.proofs.lemmas.Result.{err_from_is_err_and}
 use Rattle.grid_model.specs.Cells.{dims, cell_index, InCellBox}
@@ -8,7 +8,7 @@ use Rattle.grid_types.specs.declared.cell_box.CellBox.{CellBox}
 use Rattle.grid_cells.specs.CellBoxes.{IsNextInCellBox, IsLastInCellBox}
 use Rattle.linear_scales.specs.Queries.{MeetsQuery}
 use Rattle.query_paths.specs.Pinned.{Place}
-use Rattle.query_paths.specs.Calls.{place, OnlyReads}
+use Rattle.query_paths.specs.Calls.{place}
 use Rattle.query_paths.specs.Walks.{IsBoxCell, IsHeldGood, IsWalked, HasCellCause, cells_met}
 use Rattle.query_paths.proofs.Stepping.{first-in, begun, walked-on, whole, next-is-cell, highest-is-cell, moved, box-is, query-cause}
 use Rattle.query_paths.proofs.walking.walk.Goals as goal

@@ -1,4 +1,4 @@
-use Rattle.std.proofs.Common.{◌≡◌, ◌∙◌, ◌≤◌, ℕ, ap, sym, subst, All, length, arith}
+use Rattle.std.proofs.Common.{◌∙◌, ◌≤◌, ℕ, ap, sym, subst, All, length, arith}
 use Rattle.query_paths.specs.declared.marks.Marks.TheInside.{Inside}
 use Rattle.query_paths.proofs.Rounds.{none-filled, none-next, as-many}
 use Rattle.query_paths.proofs.marks.Marks.clear.Goals as goal

@@ -1,4 +1,4 @@
-use Rattle.std.proofs.Common.{◌≡◌, ◌∙◌, Bool, List, ap, slice_set, true}
+use Rattle.std.proofs.Common.{◌∙◌, Bool, List, ap, slice_set, true}
 use Rattle.query_paths.proofs.Rounds.{round-set}
 use Rattle.query_paths.proofs.marks.Marks.mark.Goals as goal
 

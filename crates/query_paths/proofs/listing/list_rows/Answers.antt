@@ -1,0 +1,52 @@
+use Rattle.std.proofs.Common.{◌∙◌, true, List, count_by, Result, sym, ap, subst, arith, rules}
+use Rattle.std.proofs.lemmas.Result.{err_from_is_err_and}
+use Rattle.grid_types.specs.declared.update.Record.{Record}
+use Rattle.grid_types.specs.declared.refusal.Refusal.{Refusal}
+use Rattle.grid_model.specs.Listings.{rows}
+use Rattle.grid_model.specs.Tables.{Table, pairs_of}
+use Rattle.query_paths.specs.Pinned.{TakesSteps}
+use Rattle.query_paths.specs.Paths.{reads_of}
+use Rattle.query_paths.specs.Calls.{place}
+use Rattle.query_paths.proofs.Listed.{listing-is, rows-ascend}
+use Rattle.query_paths.proofs.Wholly.{found-whole, cut-within}
+use Rattle.query_paths.proofs.Queried.{judged, cause-on, honest-query, fault-or-lack}
+use Rattle.query_paths.proofs.listing.list_rows.Goals as goal
+
+pub walk-requires : goal.walk-requires
+walk-requires g c = (search rules, (omega arith, (c.requires.few, (c.requires.lawful, (c.requires.within, ap (λ (rs : List (Record g.row.K)). pairs_of rs) c.new.ensures)))))
+
+pub returns-in_err-walk-clause-cause : goal.returns-in_err-walk-clause-cause
+returns-in_err-walk-clause-cause g c =
+    let p = place g.Q.Pinned c.args.pinned.now in
+    let e = err_from_is_err_and c.from_residual.result c.from_residual.ensures.1 in
+    rw (e.1, e.2) (cause-on true p c.args.query.now.sides c.walk.new.room.part.value c.walk.new.room.bucket.value (g.Q.Pinned.faults c.args.pinned.now) (g.Q.Pinned.faults c.walk.new.pinned) c.in_err-walk.field-0.0 (rw c.in_err-walk.was at c.walk.ensures.cause))
+
+pub returns-in_err-walk-clause-honest : goal.returns-in_err-walk-clause-honest
+returns-in_err-walk-clause-honest g c = λ L t pin.
+    let p = place g.Q.Pinned c.args.pinned.now in
+    let e = err_from_is_err_and c.from_residual.result c.from_residual.ensures.1 in
+    rw (e.1, e.2) (fault-or-lack c.in_err-walk.field-0.0 (honest-query true p L t c.args.query.now.sides c.walk.new.room.part.value c.walk.new.room.bucket.value (g.Q.Pinned.faults c.args.pinned.now) (g.Q.Pinned.faults c.walk.new.pinned) c.in_err-walk.field-0.0 pin (rw c.in_err-walk.was at c.walk.ensures.cause)))
+
+pub returns-in_err-walk-clause-reads : goal.returns-in_err-walk-clause-reads
+returns-in_err-walk-clause-reads g c = λ L t pin.
+    let p = place g.Q.Pinned c.args.pinned.now in
+    let e = err_from_is_err_and c.from_residual.result c.from_residual.ensures.1 in
+    let cut = rw c.in_err-walk.was at (c.walk.ensures.reads L t pin) in
+    subst (λ (r : Result (List (Record g.row.K)) Refusal). TakesSteps (reads_of L c.args.query.now) c.args.steps.now c.walk.new.steps r) (sym e.1) (cut.least, cut-within p L t pin c.args.query.now c.counted-sides.ensures c.requires.lawful c.walk.ensures.met c.args.steps.now c.walk.new.steps cut)
+
+pub returns-clause-answer : goal.returns-clause-answer
+returns-clause-answer g c = λ L t pin.
+    let p = place g.Q.Pinned c.args.pinned.now in
+    let q = c.args.query.now in
+    let w = found-whole p L t pin q c.counted-sides.ensures c.requires.lawful c.in_ok-walk.ensures.met c.args.steps.now c.walk.new.steps _ c.in_ok-walk.ensures.walked in
+    listing-is c.walk.new.gathering.rows c.sort.new.self (rows t q) c.sort.ensures.same c.sort.ensures.sorted (rows-ascend t q pin.stands.table) (λ test. ap (λ (s : Table). count_by test s) w.holds_found ∙ w.same test)
+
+pub returns-clause-reads : goal.returns-clause-reads
+returns-clause-reads g c = λ L t pin.
+    let p = place g.Q.Pinned c.args.pinned.now in
+    let w = found-whole p L t pin c.args.query.now c.counted-sides.ensures c.requires.lawful c.in_ok-walk.ensures.met c.args.steps.now c.walk.new.steps _ c.in_ok-walk.ensures.walked in
+    w.steps
+
+pub returns-clause-judged : goal.returns-clause-judged
+returns-clause-judged g c =
+    judged (place g.Q.Pinned c.args.pinned.now) c.args.query.now c.args.steps.now c.walk.new.steps _ c.in_ok-walk.ensures.met c.in_ok-walk.ensures.walked
