@@ -14,7 +14,7 @@ use Rattle.grid_model.proofs.CellLaws.{have-indices}
 use Rattle.grid_model.proofs.Divided.{pairs-of-records}
 use Rattle.grid_model.proofs.TableLaws.{alike}
 use Rattle.query_paths.specs.Pinned.{Place, IsPinnedTo}
-use Rattle.query_paths.specs.Paths.{IsFound, IsUnexpected}
+use Rattle.query_paths.specs.Paths.{IsGot, IsUnexpected}
 use Rattle.query_paths.proofs.Naming.{place_over, pinned-place, named-box, bucket-is, as-expected}
 
 -- a region that has a key has the table's data at it
@@ -32,15 +32,15 @@ module _ {K : ℕ} (p : Place) (L : Layout K) (t : Table) (pin : IsPinnedTo p L 
   cell : IsCell (dims L.scales) (cell_of L.scales key)
   cell = (have-indices K).key L.scales key (is_key.count ∙ sym pin.stands.sound.attributes)
 
-  answered-over : (bytes : List ℕ) (answer : Option (List ℕ)) → IsFound K same key bytes answer → answer ≡ get t key
+  answered-over : (bytes : List ℕ) (answer : Option (List ℕ)) → IsGot K same key bytes answer → answer ≡ get t key
   answered-over bytes answer f =
       let found = named-box p.shape L t p.file_page pin.stands (cell_of L.scales key) cell f.number f.names in
       let is : f.bucket ≡ bucket_on t (f.number, found.0) = bucket-is p.shape L t p.file_page pin.stands f.number found.0 bytes f.bucket found.1.there (f.has.page.given _ refl) f.has.expected.spelled in
       f.answer_is ∙ ap (λ (b : BucketOf K). get (pairs_of b.rows) key) is ∙ inside-same t f.number found.0 key (found.1.inside key is_key refl)
 
   -- what a get finds is what the table has at the key
-  pub answered : (bytes : List ℕ) (answer : Option (List ℕ)) → IsFound K p key bytes answer → answer ≡ get t key
-  answered bytes answer f = answered-over bytes answer (subst (λ (q : Place). IsFound K q key bytes answer) (pinned-place p L t pin) f)
+  pub answered : (bytes : List ℕ) (answer : Option (List ℕ)) → IsGot K p key bytes answer → answer ≡ get t key
+  answered bytes answer f = answered-over bytes answer (subst (λ (q : Place). IsGot K q key bytes answer) (pinned-place p L t pin) f)
 
   unexpected-over : (bytes : List ℕ) (at : ℕ) → IsUnexpected K same (cell_of L.scales key) (SoughtKey key) bytes bytes at → ⊥
   unexpected-over bytes at u = as-expected p.shape L t p.file_page pin.stands (cell_of L.scales key) cell (SoughtKey key) bytes bytes at (λ k e. (subst (IsKey K) (sym e) is_key, ap (cell_of L.scales) e)) u

@@ -15,7 +15,7 @@ use Rattle.query_paths.specs.declared.room.Room.{Room}
 use Rattle.query_paths.specs.Pinned.{Place, IsPinnedTo}
 use Rattle.query_paths.specs.Paths.{index_in_part, IsUnexpected, AsBucket}
 use Rattle.query_paths.specs.Readings.{IsCellBucketRead, IsDamagedForCell, NamesNothing, Unexpected}
-use Rattle.query_paths.specs.Walks.{IsHeldGood, IsHeldBy, Kept, Fresh, IsReading, HasCellCause, numbers_of}
+use Rattle.query_paths.specs.Walks.{IsHeldGood, IsHeldBy, Kept, Fresh, ReadsOnce, HasCellCause, bucket_numbers}
 use Rattle.query_paths.proofs.Distinct.{among-numbers}
 use Rattle.query_paths.proofs.Judged.{IsNumberAt, part-inside, nameless}
 use Rattle.query_paths.proofs.Naming.{place_over, pinned-place, as-expected}
@@ -63,7 +63,7 @@ module _ (K : ℕ) (p : Place) (cell : List ℕ) (part : ℕ) (bytes : List ℕ)
   cell-cause lacks room before mid now was _ l m same d = absurd d
 
 -- the number of a bucket that was read is one of the place
-pub read-among : {K : ℕ} (p : Place) (b : CellBox K) (parts : List ℕ) (read : List (BucketOf K)) (n : ℕ) → IsReading p b parts read → IsTrue (is_among (numbers_of read) n) → IsTrue (is_among p.numbers n)
+pub read-among : {K : ℕ} (p : Place) (b : CellBox K) (parts : List ℕ) (read : List (BucketOf K)) (n : ℕ) → ReadsOnce p b parts read → IsTrue (is_among (bucket_numbers read) n) → IsTrue (is_among p.numbers n)
 read-among {K} p b parts read n h g =
     let x = among-numbers (λ (y : BucketOf K). y.number) read n g in
     let names = (h.each x.0 x.1).names in

@@ -12,7 +12,7 @@ use Rattle.grid_model.specs.Tables.{Table}
 use Rattle.disk_trait.specs.Causes.{Rose}
 use Rattle.query_paths.specs.Pinned.{Place, IsPinnedTo}
 use Rattle.query_paths.specs.Paths.{index_in_part, IsUnexpected, IsGetRefusal, HasGetCause, NamesBucket}
-use Rattle.query_paths.specs.Readings.{IsGoodPart, IsPartRead, IsBucketRead, IsDamaged, Nameless, Unspelled}
+use Rattle.query_paths.specs.Readings.{IsGoodPart, IsPartRead, IsBucketRead, IsDamagedBucket, Nameless, Unspelled}
 use Rattle.query_paths.proofs.Judged.{IsNumberAt, bad-part, names-bucket, nameless, bad-bucket}
 use Rattle.query_paths.proofs.Answered.{get-expected}
 
@@ -45,7 +45,7 @@ module _ {T : Type 0} (K : ℕ) (p : Place) (before now : ℕ) (key : List ℕ) 
   bucket-cause mid part part_bytes directory number bytes ReadFault l m part_of_key h = record { later = omega (arith, l, m); refused = rose-later before mid now l h }
   bucket-cause mid part part_bytes directory number bytes (Damaged at) l m part_of_key h = record { later = omega (arith, l, m); refused = by h }
     where
-      by : IsDamaged K p number directory part_bytes bytes at → IsUnexpected K p (cell_of p.scales key) (SoughtKey key) bytes bytes at
+      by : IsDamagedBucket K p number directory part_bytes bytes at → IsUnexpected K p (cell_of p.scales key) (SoughtKey key) bytes bytes at
       by (Nameless n) =
           subst (λ (f : ℕ). IsUnexpected K p (cell_of p.scales key) (SoughtKey key) bytes bytes f) (sym n.directory_is)
           (subst (λ (b : List ℕ). IsUnexpected K p (cell_of p.scales key) (SoughtKey key) b bytes directory) (sym n.same_bytes)

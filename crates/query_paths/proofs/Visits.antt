@@ -20,7 +20,7 @@ use Rattle.query_paths.specs.declared.room.Room.{Room}
 use Rattle.query_paths.specs.Pinned.{Place}
 use Rattle.query_paths.specs.Paths.{NamesBucket, HasBucket}
 use Rattle.query_paths.specs.Readings.{IsGoodPart}
-use Rattle.query_paths.specs.Walks.{IsBoxCell, HasBoxCell, IsHeldGood, IsHeldBy, Kept, Fresh, IsNamedAmong, IsReadFor, IsWalked, IsCutShort, numbers_of}
+use Rattle.query_paths.specs.Walks.{IsBoxCell, HasBoxCell, IsHeldGood, IsHeldBy, Kept, Fresh, IsNamedAmong, IsReadFor, IsWalked, IsCutShort, bucket_numbers}
 use Rattle.query_paths.proofs.Distinct.{distinct-more, among-split, among-first, among-later, among-numbers}
 use Rattle.query_paths.proofs.Found.{few-rows}
 
@@ -112,7 +112,7 @@ module _ {K : ℕ} (p : Place) (q : Query K) (b : CellBox K) (i : ℕ) (start : 
       abbrev w : IsWalked p q b i room start now H
       w = h.walked
 
-      named-here : (numbers : List ℕ) → IsTrue (is_among numbers n) → ((m : ℕ) → IsTrue (is_among (numbers_of w.read) m) → IsTrue (is_among numbers m))
+      named-here : (numbers : List ℕ) → IsTrue (is_among numbers n) → ((m : ℕ) → IsTrue (is_among (bucket_numbers w.read) m) → IsTrue (is_among numbers m))
           → (c : List ℕ) → IsBoxCell p b c → cell_index (dims p.scales) c < i + 1 → IsNamedAmong p c w.parts numbers
       named-here numbers has more c m l = by (cases_lt (cell_index (dims p.scales) c) i)
         where
@@ -123,13 +123,13 @@ module _ {K : ℕ} (p : Place) (q : Query K) (b : CellBox K) (i : ℕ) (start : 
               subst (λ (d : List ℕ). IsNamedAmong p d w.parts numbers) same (record { number = n; names = names; bucket_read = has; part_read = subst (λ (r : ℕ). IsTrue (is_among w.parts r)) (sym part-is) h.here })
 
       -- a cell whose bucket was read already is passed
-      pub passed : IsTrue (is_among (numbers_of w.read) n) → IsWalked p q b (i + 1) room start now H
+      pub passed : IsTrue (is_among (bucket_numbers w.read) n) → IsWalked p q b (i + 1) room start now H
       passed has = record {
         parts = w.parts;
         read = w.read;
         found = w.found;
         reading = w.reading;
-        named = named-here (numbers_of w.read) has (λ m g. g);
+        named = named-here (bucket_numbers w.read) has (λ m g. g);
         marked = w.marked;
         held = λ x g. let y = w.held x g in (y.0, omega (arith, y.1));
         last = w.last;
@@ -139,12 +139,12 @@ module _ {K : ℕ} (p : Place) (q : Query K) (b : CellBox K) (i : ℕ) (start : 
         steps = w.steps;
       }
 
-      module _ (out : is_among (numbers_of w.read) n ≡ false) where
+      module _ (out : is_among (bucket_numbers w.read) n ≡ false) where
         -- the number is not that of a bucket that was read
-        each-number : (m : ℕ) → IsTrue (is_among (n ∷ numbers_of w.read) m) → (c : List ℕ) × IsBoxCell p b c × NamesBucket p c m
-        each-number m g = by (among-split n (numbers_of w.read) m g)
+        each-number : (m : ℕ) → IsTrue (is_among (n ∷ bucket_numbers w.read) m) → (c : List ℕ) × IsBoxCell p b c × NamesBucket p c m
+        each-number m g = by (among-split n (bucket_numbers w.read) m g)
           where
-            by : (n ≡ m) ⊎ IsTrue (is_among (numbers_of w.read) m) → (c : List ℕ) × IsBoxCell p b c × NamesBucket p c m
+            by : (n ≡ m) ⊎ IsTrue (is_among (bucket_numbers w.read) m) → (c : List ℕ) × IsBoxCell p b c × NamesBucket p c m
             by (inl e) = (cell, is_in, subst (NamesBucket p cell) e names)
             by (inr r) = let x = among-numbers (λ (y : BucketOf K). y.number) w.read m r in let f = w.reading.each x.0 x.1 in (f.cell, f.is_in, subst (NamesBucket p f.cell) x.2 f.names)
 
@@ -152,10 +152,10 @@ module _ {K : ℕ} (p : Place) (q : Query K) (b : CellBox K) (i : ℕ) (start : 
         pub cut-at-bucket : (after : ℕ) → now ≤ after → after ≤ now + 1 → IsCutShort p b start after
         cut-at-bucket after least l = record {
           parts = w.parts;
-          numbers = n ∷ numbers_of w.read;
+          numbers = n ∷ bucket_numbers w.read;
           distinct_parts = w.reading.distinct_parts;
           each_part = w.reading.each_part;
-          distinct = distinct-more n (numbers_of w.read) out w.reading.distinct;
+          distinct = distinct-more n (bucket_numbers w.read) out w.reading.distinct;
           each = each-number;
           least = omega (arith, least, w.steps);
           most = omega (arith, l, w.steps, length-map w.read (λ (y : BucketOf K). y.number));
@@ -185,10 +185,10 @@ module _ {K : ℕ} (p : Place) (q : Query K) (b : CellBox K) (i : ℕ) (start : 
             reading = record {
               distinct_parts = w.reading.distinct_parts;
               each_part = w.reading.each_part;
-              distinct = distinct-more bucket.number (numbers_of w.read) (ap (is_among (numbers_of w.read)) is_n ∙ out) w.reading.distinct;
+              distinct = distinct-more bucket.number (bucket_numbers w.read) (ap (is_among (bucket_numbers w.read)) is_n ∙ out) w.reading.distinct;
               each = each-bucket;
             };
-            named = named-here (numbers_of (bucket ∷ w.read)) (subst (λ (m : ℕ). IsTrue (is_among (m ∷ numbers_of w.read) n)) (sym is_n) (among-first n (numbers_of w.read))) (λ m g. among-later bucket.number (numbers_of w.read) m g);
+            named = named-here (bucket_numbers (bucket ∷ w.read)) (subst (λ (m : ℕ). IsTrue (is_among (m ∷ bucket_numbers w.read) n)) (sym is_n) (among-first n (bucket_numbers w.read))) (λ m g. among-later bucket.number (bucket_numbers w.read) m g);
             marked = marked-now;
             held = λ x g. let y = w.held x (sym held ∙ g) in (y.0, omega (arith, y.1));
             last = λ part g. let l = w.last part g in (l.0, held ∙ l.1, l.2);
@@ -198,24 +198,24 @@ module _ {K : ℕ} (p : Place) (q : Query K) (b : CellBox K) (i : ℕ) (start : 
             steps = omega (arith, steps, w.steps);
           }
             where
-              marked-now : (m : ℕ) → slice_index_or after_room.marks m false ≡ is_among (bucket.number ∷ numbers_of w.read) m
+              marked-now : (m : ℕ) → slice_index_or after_room.marks m false ≡ is_among (bucket.number ∷ bucket_numbers w.read) m
               marked-now m = ap (λ ms. slice_index_or ms m false) marks ∙ by (n == m) refl
                 where
-                  by : (t : Bool) → (n == m) ≡ t → slice_index_or (slice_set room.marks n true) m false ≡ is_among (bucket.number ∷ numbers_of w.read) m
+                  by : (t : Bool) → (n == m) ≡ t → slice_index_or (slice_set room.marks n true) m false ≡ is_among (bucket.number ∷ bucket_numbers w.read) m
                   by true e =
                       let same : n ≡ m = eqb-true n m e in
                       subst (λ (k : ℕ). slice_index_or (slice_set room.marks n true) k false ≡ true) same (get_or-set_same room.marks n true false low)
-                      ∙ sym (subst (λ (k : ℕ). IsTrue (is_among (k ∷ numbers_of w.read) m)) (sym (is_n ∙ same)) (among-first m (numbers_of w.read)))
+                      ∙ sym (subst (λ (k : ℕ). IsTrue (is_among (k ∷ bucket_numbers w.read) m)) (sym (is_n ∙ same)) (among-first m (bucket_numbers w.read)))
                   by false e =
                       get_or-set_other room.marks n m true false (λ same. true≢false (sym (eq-eqb n m (sym same)) ∙ e))
                       ∙ w.marked m
-                      ∙ ap (λ t. t || is_among (numbers_of w.read) m) (sym (ap (λ k. k == m) is_n ∙ e))
+                      ∙ ap (λ t. t || is_among (bucket_numbers w.read) m) (sym (ap (λ k. k == m) is_n ∙ e))
 
     -- a walk that is refused where it reads a part was cut short
     pub cut-at-part : (old : Room K) (before after : ℕ) (w : IsWalked p q b i old start before H) → ((h : Held) → old.held ≡ Some h → h.part ≡ i / WORDS_ON_PAGE → ⊥) → before ≤ after → after ≤ before + 1 → IsCutShort p b start after
     cut-at-part old before after w other least l = record {
       parts = (i / WORDS_ON_PAGE) ∷ w.parts;
-      numbers = numbers_of w.read;
+      numbers = bucket_numbers w.read;
       distinct_parts = distinct-more (i / WORDS_ON_PAGE) w.parts (unread old old before before 0 w other) w.reading.distinct_parts;
       each_part = each-more old old before before 0 w;
       distinct = w.reading.distinct;

@@ -29,8 +29,8 @@ use Rattle.grid_model.proofs.Found.{one-number}
 use Rattle.grid_model.proofs.Gathered.{each-entry}
 use Rattle.grid_model.proofs.Members.{contains-first, contains-later, contains-filter, contains-from-filter}
 use Rattle.query_paths.specs.Pinned.{Place, IsPinnedTo}
-use Rattle.query_paths.specs.Paths.{NamesBucket, asked, reads_of}
-use Rattle.query_paths.specs.Walks.{IsBoxCell, HasBoxCell, IsWholeWalk, IsCutShort, AreCellsMet, cells_met, numbers_of}
+use Rattle.query_paths.specs.Paths.{NamesBucket, region_asked, pages_of_query}
+use Rattle.query_paths.specs.Walks.{IsBoxCell, HasBoxCell, IsWholeWalk, IsCutShort, AreCellsMet, cells_met, bucket_numbers}
 use Rattle.query_paths.proofs.Boxed.{choices-to, choices-from, holds-part, held-cell, parts-distinct}
 use Rattle.query_paths.proofs.Distinct.{among-numbers, number-among, no-more}
 use Rattle.query_paths.proofs.Naming.{place_over, pinned-place, named-box, bucket-is}
@@ -100,15 +100,15 @@ module _ {K : ℕ} (shape : Shape) (L : Layout K) (t : Table) (file_page : Owner
   long = (first-in here q stands.sound.attributes sides lawful).is_cell.count ∙ sym (highest-is-cell here q stands.sound.attributes sides lawful).count
 
   -- parts that hold a cell of the box are no more than those of the region that is asked for
-  pub parts-few : (parts : List ℕ) → AreDistinct parts → ((part : ℕ) → IsTrue (is_among parts part) → HasBoxCell here (cells_met L.scales q) part) → length parts ≤ length (parts_holding L.scales (asked q))
-  parts-few parts distinct each = no-more parts (parts_holding L.scales (asked q)) distinct (λ part g.
+  pub parts-few : (parts : List ℕ) → AreDistinct parts → ((part : ℕ) → IsTrue (is_among parts part) → HasBoxCell here (cells_met L.scales q) part) → length parts ≤ length (parts_holding L.scales (region_asked q))
+  parts-few parts distinct each = no-more parts (parts_holding L.scales (region_asked q)) distinct (λ part g.
       let x = each part g in
-      subst (λ (r : ℕ). IsTrue (is_among (parts_holding L.scales (asked q)) r)) x.lies
-      (holds-part L.scales (asked q) x.cell x.is_in.is_cell (choices-to (cells_met L.scales q).lo (cells_met L.scales q).hi x.cell long x.is_in.inside.count x.is_in.inside.within)))
+      subst (λ (r : ℕ). IsTrue (is_among (parts_holding L.scales (region_asked q)) r)) x.lies
+      (holds-part L.scales (region_asked q) x.cell x.is_in.is_cell (choices-to (cells_met L.scales q).lo (cells_met L.scales q).hi x.cell long x.is_in.inside.count x.is_in.inside.within)))
 
   -- a walk that was cut short has read no more pages than the query takes
-  pub cut-few : (start now : ℕ) → IsCutShort here (cells_met L.scales q) start now → now ≤ start + reads_of L q
-  unfolding reads_of
+  pub cut-few : (start now : ℕ) → IsCutShort here (cells_met L.scales q) start now → now ≤ start + pages_of_query L q
+  unfolding pages_of_query
   cut-few start now c = omega (arith, c.most, parts-few c.parts c.distinct_parts c.each_part, numbers-few c.numbers c.distinct c.each)
 
   module _ (start now : ℕ) (H : Table → Type 0) (w : IsWholeWalk here q (cells_met L.scales q) start now H) where
@@ -158,32 +158,32 @@ module _ {K : ℕ} (shape : Shape) (L : Layout K) (t : Table) (file_page : Owner
     boxes-many : length (filter is_met L.boxes) ≤ length w.read
     boxes-many = omega (
       arith,
-      no-more (map (λ e. e.0) (filter is_met L.boxes)) (numbers_of w.read) (some-distinct is_met L.boxes (sorted-distinct L.boxes stands.sound.numbered)) (λ n g. at n (among-numbers (λ (e : ℕ × BucketBox K). e.0) (filter is_met L.boxes) n g)),
+      no-more (map (λ e. e.0) (filter is_met L.boxes)) (bucket_numbers w.read) (some-distinct is_met L.boxes (sorted-distinct L.boxes stands.sound.numbered)) (λ n g. at n (among-numbers (λ (e : ℕ × BucketBox K). e.0) (filter is_met L.boxes) n g)),
       length-map (filter is_met L.boxes) (λ (e : ℕ × BucketBox K). e.0),
       length-map w.read (λ (b : BucketOf K). b.number),
     )
       where
-        at : (n : ℕ) → (e : ℕ × BucketBox K) × Contains (filter is_met L.boxes) e × (e.0 ≡ n) → IsTrue (is_among (numbers_of w.read) n)
+        at : (n : ℕ) → (e : ℕ × BucketBox K) × Contains (filter is_met L.boxes) e × (e.0 ≡ n) → IsTrue (is_among (bucket_numbers w.read) n)
         at n x =
             let kept = contains-from-filter is_met L.boxes x.0 x.1 in
             let there : box L x.0.0 ≡ Some x.0.1 = subst (λ (e : ℕ × BucketBox K). find nat_cmp e.0 L.boxes ≡ Some e.1) kept.0.2 (each-found nat_cmp nat_cmp_total nat_cmp-IsAntisymmetric L.boxes stands.sound.numbered kept.0.0 x.0 kept.0.1) in
             let common = (met x.0.1.region q.sides (stands.sound.regions x.0.0 x.0.1 there) lawful).0 kept.1 in
             let r = read-for common.key common.is_key common.asked in
             let same : r.0.number ≡ n = stands.sound.apart common.key r.0.number x.0.0 r.0.box x.0.1 (is-box r.0 r.1) there r.2 common.inside ∙ x.2 in
-            subst (λ (m : ℕ). IsTrue (is_among (numbers_of w.read) m)) same (number-among (λ (b : BucketOf K). b.number) w.read r.0 r.1)
+            subst (λ (m : ℕ). IsTrue (is_among (bucket_numbers w.read) m)) same (number-among (λ (b : BucketOf K). b.number) w.read r.0 r.1)
 
-    parts-many : length (parts_holding L.scales (asked q)) ≤ length w.parts
-    parts-many = no-more (parts_holding L.scales (asked q)) w.parts (parts-distinct L.scales (asked q)) (λ part g.
-        let x = held-cell L.scales (asked q) part g in
+    parts-many : length (parts_holding L.scales (region_asked q)) ≤ length w.parts
+    parts-many = no-more (parts_holding L.scales (region_asked q)) w.parts (parts-distinct L.scales (region_asked q)) (λ part g.
+        let x = held-cell L.scales (region_asked q) part g in
         let lies = choices-from (cells_met L.scales q).lo (cells_met L.scales q).hi x.0 long x.1 in
         let is_in = next-is-cell here (cells_met L.scales q) x.0 (highest-is-cell here q stands.sound.attributes sides lawful) long (record { count = lies.count; within = lies.within }) in
         subst (λ (r : ℕ). IsTrue (is_among w.parts r)) x.2 (w.named x.0 is_in).part_read)
 
     -- a whole walk has read as many pages as the query takes
-    pub whole-many : now ≡ start + reads_of L q
-    unfolding reads_of
+    pub whole-many : now ≡ start + pages_of_query L q
+    unfolding pages_of_query
     whole-many =
-        let few = numbers-few (numbers_of w.read) w.reading.distinct (λ n g. let x = among-numbers (λ (b : BucketOf K). b.number) w.read n g in let f = w.reading.each x.0 x.1 in (f.cell, f.is_in, subst (NamesBucket here f.cell) x.2 f.names)) in
+        let few = numbers-few (bucket_numbers w.read) w.reading.distinct (λ n g. let x = among-numbers (λ (b : BucketOf K). b.number) w.read n g in let f = w.reading.each x.0 x.1 in (f.cell, f.is_in, subst (NamesBucket here f.cell) x.2 f.names)) in
         omega (arith, w.steps, boxes-many, parts-many, parts-few w.parts w.reading.distinct_parts w.reading.each_part, few, length-map w.read (λ (b : BucketOf K). b.number))
 
 -- all records of a table that match were found, and as many pages were read as the query takes
@@ -191,7 +191,7 @@ pub record IsFoundWhole {K : ℕ} (L : Layout K) (t : Table) (q : Query K) (star
   pub found : Table
   pub holds_found : H found
   pub same : (test : List ℕ × List ℕ → Bool) → count_by test found ≡ count_by test (rows t q)
-  pub steps : now ≡ start + reads_of L q
+  pub steps : now ≡ start + pages_of_query L q
 
 module _ {K : ℕ} (p : Place) (L : Layout K) (t : Table) (pin : IsPinnedTo p L t) (q : Query K) (sides : length q.sides ≡ K) (lawful : is_lawful q.sides ≡ true) (cells_are : AreCellsMet p.scales q) where
   cells_here : AreCellsMet L.scales q
@@ -209,5 +209,5 @@ module _ {K : ℕ} (p : Place) (L : Layout K) (t : Table) (pin : IsPinnedTo p L 
       }
 
   -- one that was cut short has read no more
-  pub cut-within : (start now : ℕ) → IsCutShort p (cells_met p.scales q) start now → now ≤ start + reads_of L q
+  pub cut-within : (start now : ℕ) → IsCutShort p (cells_met p.scales q) start now → now ≤ start + pages_of_query L q
   cut-within start now c = cut-few p.shape L t p.file_page pin.stands q sides lawful cells_here start now (subst (λ (x : Place). IsCutShort x (cells_met x.scales q) start now) (pinned-place p L t pin) c)

@@ -50,7 +50,7 @@ pub record HasBucket {K : ℕ} (p : Place) (number : ℕ) (sought : Sought) (byt
   pub expected : IsExpectedBucket p.shape bytes number sought b
 
 -- a get found its answer: the bucket that the directory names at the key's cell is the one that has the key, and the answer is what its records have at the key
-pub record IsFound (K : ℕ) (p : Place) (key bytes : List ℕ) (answer : Option (List ℕ)) : Type 0 where
+pub record IsGot (K : ℕ) (p : Place) (key bytes : List ℕ) (answer : Option (List ℕ)) : Type 0 where
   pub number : ℕ
   pub names : NamesBucket p (cell_of p.scales key) number
   pub bucket : BucketOf K
@@ -93,12 +93,12 @@ pub record HasQueryCause (K : ℕ) {T : Type 0} (lacks : Bool) (p : Place) (side
   pub refused : IfErr result (IsQueryRefusal K lacks p sides part_bytes bucket_bytes before now)
 
 -- the region of the keys that are asked for, from the least to the greatest
-abbrev pub asked : {K : ℕ} → Query K → Region K
-asked q = record { lo = map begin_of q.sides; hi = map end_of q.sides }
+abbrev pub region_asked : {K : ℕ} → Query K → Region K
+region_asked q = record { lo = map begin_of q.sides; hi = map end_of q.sides }
 
 -- how many pages a query takes: the directory parts that hold a cell that it meets, and the boxes that it meets
-unfoldable pub reads_of : {K : ℕ} → Layout K → Query K → ℕ
-reads_of L q = length (parts_holding L.scales (asked q)) + length (filter (λ e. meets e.1.region q.sides) L.boxes)
+unfoldable pub pages_of_query : {K : ℕ} → Layout K → Query K → ℕ
+pages_of_query L q = length (parts_holding L.scales (region_asked q)) + length (filter (λ e. meets e.1.region q.sides) L.boxes)
 
 -- a cell's bucket was judged: the page of the number that the directory names there spells a bucket of that number, and its region has the keys of a cell that the query meets and that names it
 pub record IsJudged (K : ℕ) (p : Place) (sides : List Side) (cell : List ℕ) : Type 0 where

@@ -25,15 +25,15 @@ IsReadIfThere pages file_page o bytes (Ok None) = ⊤
 IsReadIfThere pages file_page o bytes (Err e) = ⊤
 
 -- a call makes so many steps, or where it fails at most as many
-abbrev pub TakesSteps : {T E : Type 0} → ℕ → ℕ → ℕ → Result T E → Type 0
-TakesSteps n old new (Ok x) = new ≡ old + n
-TakesSteps n old new (Err e) = (old ≤ new) × (new ≤ old + n)
+abbrev pub MakesSteps : {T E : Type 0} → ℕ → ℕ → ℕ → Result T E → Type 0
+MakesSteps n old new (Ok x) = new ≡ old + n
+MakesSteps n old new (Err e) = (old ≤ new) × (new ≤ old + n)
 
 -- a call makes one step where there is something, none where there is nothing, and one at most where it fails
-abbrev pub TakesAStepIfThere : {T E : Type 0} → ℕ → ℕ → Result (Option T) E → Type 0
-TakesAStepIfThere old new (Ok (Some x)) = new ≡ old + 1
-TakesAStepIfThere old new (Ok None) = new ≡ old
-TakesAStepIfThere old new (Err e) = (old ≤ new) × (new ≤ old + 1)
+abbrev pub MakesAStepIfThere : {T E : Type 0} → ℕ → ℕ → Result (Option T) E → Type 0
+MakesAStepIfThere old new (Ok (Some x)) = new ≡ old + 1
+MakesAStepIfThere old new (Ok None) = new ≡ old
+MakesAStepIfThere old new (Err e) = (old ≤ new) × (new ≤ old + 1)
 
 -- a place stays as it was: the shape, the boundaries, the numbers of buckets, what readings give, and where pages stand in the file
 pub record StaysPinned {P : Type 0} (shape : P → Shape) (scales : P → List (List ℕ)) (numbers : P → List ℕ) (pages : P → Option (Owner → Option (List ℕ))) (file_page : P → Owner → ℕ) (old new : P) : Type 0 where

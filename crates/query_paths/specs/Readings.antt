@@ -57,15 +57,15 @@ pub record NamesNone (p : Place) (number directory : ℕ) (before bytes : List �
   pub directory_is : at ≡ directory
 
 -- a bucket's page is damaged, or that of the directory that names it
-pub data IsDamaged (K : ℕ) (p : Place) (number directory : ℕ) (before bytes : List ℕ) (at : ℕ) : Type 0 where
-  Nameless : NamesNone p number directory before bytes at → IsDamaged K p number directory before bytes at
-  Unspelled : IsBadBucket K p number bytes at → IsDamaged K p number directory before bytes at
+pub data IsDamagedBucket (K : ℕ) (p : Place) (number directory : ℕ) (before bytes : List ℕ) (at : ℕ) : Type 0 where
+  Nameless : NamesNone p number directory before bytes at → IsDamagedBucket K p number directory before bytes at
+  Unspelled : IsBadBucket K p number bytes at → IsDamagedBucket K p number directory before bytes at
 
 -- a reading of a bucket that a directory page names is told as good or as damaged, or failed
 abbrev pub IsBucketRead : (K : ℕ) → Place → ℕ → ℕ → ℕ → ℕ → List ℕ → List ℕ → Result (ℕ × Head K) Refusal → Type 0
 IsBucketRead K p rose now number directory before bytes (Ok r) = IsGoodBucket K p number bytes r.0 r.1
 IsBucketRead K p rose now number directory before bytes (Err ReadFault) = Rose rose now
-IsBucketRead K p rose now number directory before bytes (Err (Damaged at)) = IsDamaged K p number directory before bytes at
+IsBucketRead K p rose now number directory before bytes (Err (Damaged at)) = IsDamagedBucket K p number directory before bytes at
 IsBucketRead K p rose now number directory before bytes (Err _) = ⊥
 
 -- the page of a bucket was read for a cell, is the expected one, and has that head

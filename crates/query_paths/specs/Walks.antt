@@ -30,8 +30,8 @@ abbrev pub IsHeldGood : {K : ℕ} → Place → Room K → Type 0
 IsHeldGood p room = (h : Held) → room.held ≡ Some h → IsGoodPart p h.part room.part.value h.at
 
 -- the numbers of some buckets
-abbrev pub numbers_of : {K : ℕ} → List (BucketOf K) → List ℕ
-numbers_of read = map (λ b. b.number) read
+abbrev pub bucket_numbers : {K : ℕ} → List (BucketOf K) → List ℕ
+bucket_numbers read = map (λ b. b.number) read
 
 -- the directory names a bucket at a cell, whose page is among those that were read, and so is that of the cell's part
 pub record IsNamedAmong (p : Place) (cell : List ℕ) (parts numbers : List ℕ) : Type 0 where
@@ -55,10 +55,10 @@ pub record HasBoxCell {K : ℕ} (p : Place) (b : CellBox K) (part : ℕ) : Type 
   pub lies : part_of p.scales cell ≡ part
 
 -- what a walk has read: parts and buckets, none twice, each for a cell of the box
-pub record IsReading {K : ℕ} (p : Place) (b : CellBox K) (parts : List ℕ) (read : List (BucketOf K)) : Type 0 where
+pub record ReadsOnce {K : ℕ} (p : Place) (b : CellBox K) (parts : List ℕ) (read : List (BucketOf K)) : Type 0 where
   pub distinct_parts : AreDistinct parts
   pub each_part : (part : ℕ) → IsTrue (is_among parts part) → HasBoxCell p b part
-  pub distinct : AreDistinct (numbers_of read)
+  pub distinct : AreDistinct (bucket_numbers read)
   pub each : (bucket : BucketOf K) → Contains read bucket → IsReadFor p b bucket
 
 -- the records found are those of the buckets that match: each test passes as many of the ones as of the others
@@ -70,9 +70,9 @@ pub record IsWalked {K : ℕ} (p : Place) (q : Query K) (b : CellBox K) (i : ℕ
   pub parts : List ℕ
   pub read : List (BucketOf K)
   pub found : Table
-  pub reading : IsReading p b parts read
-  pub named : (cell : List ℕ) → IsBoxCell p b cell → cell_index (dims p.scales) cell < i → IsNamedAmong p cell parts (numbers_of read)
-  pub marked : (n : ℕ) → slice_index_or room.marks n false ≡ is_among (numbers_of read) n
+  pub reading : ReadsOnce p b parts read
+  pub named : (cell : List ℕ) → IsBoxCell p b cell → cell_index (dims p.scales) cell < i → IsNamedAmong p cell parts (bucket_numbers read)
+  pub marked : (n : ℕ) → slice_index_or room.marks n false ≡ is_among (bucket_numbers read) n
   pub held : (h : Held) → room.held ≡ Some h → IsTrue (is_among parts h.part) × (h.part ≤ i / WORDS_ON_PAGE)
   pub last : (part : ℕ) → IsTrue (is_among parts part) → (h : Held) × (room.held ≡ Some h) × (part ≤ h.part)
   pub holds_found : holds found
@@ -144,8 +144,8 @@ pub record IsWholeWalk {K : ℕ} (p : Place) (q : Query K) (b : CellBox K) (star
   pub parts : List ℕ
   pub read : List (BucketOf K)
   pub found : Table
-  pub reading : IsReading p b parts read
-  pub named : (cell : List ℕ) → IsBoxCell p b cell → IsNamedAmong p cell parts (numbers_of read)
+  pub reading : ReadsOnce p b parts read
+  pub named : (cell : List ℕ) → IsBoxCell p b cell → IsNamedAmong p cell parts (bucket_numbers read)
   pub holds_found : holds found
   pub rows_are : AreRowsOf q read found
   pub steps : now ≡ start + (length parts + length read)

@@ -6,9 +6,9 @@ ghost use Rattle.grid_types.specs.Queries.{is_lawful};
 ghost use Rattle.grid_model.specs.Layouts.{Layout};
 ghost use Rattle.grid_model.specs.Listings.{rows};
 ghost use Rattle.grid_model.specs.Tables.{Table};
-ghost use Rattle.query_paths.specs.Pinned.{IsPinnedTo, TakesSteps};
-ghost use Rattle.query_paths.specs.Calls.{place, OnlyReads};
-ghost use Rattle.query_paths.specs.Paths.{AreJudged, HasQueryCause, reads_of};
+ghost use Rattle.query_paths.specs.Pinned.{IsPinnedTo, MakesSteps};
+ghost use Rattle.query_paths.specs.Calls.{place, LeavesPlace};
+ghost use Rattle.query_paths.specs.Paths.{AreJudged, HasQueryCause, pages_of_query};
 
 use crate::gathering::Tally;
 use crate::walking::{counted, walk};
@@ -39,10 +39,10 @@ pub fn count_rows<const K: usize, Q: Pinned<K>, L: Ledger>(
         (Q.faults pinned.old) (Q.faults pinned.new) result }
     ensures reads { (L : Layout K) (t : Table)
         → IsPinnedTo (place Q.Pinned pinned.old) L t
-        → TakesSteps (reads_of L query.now) steps.old steps.new result }
+        → MakesSteps (pages_of_query L query.now) steps.old steps.new result }
     ensures judged { OnOk result (AreJudged K (place Q.Pinned pinned.old) query.now.sides) }
     ensures marks { length room.new.marks ≡ length room.old.marks }
-    ensures same { OnlyReads Q.Pinned pinned.old pinned.new }
+    ensures same { LeavesPlace Q.Pinned pinned.old pinned.new }
 {
     let _sides = counted(&query.sides);
     let mut tally = Tally { rows: 0 };

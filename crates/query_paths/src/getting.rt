@@ -4,9 +4,9 @@ ghost use Rattle.grid_types.specs.declared.refusal.Refusal.TheVariants.{ReadFaul
 ghost use Rattle.grid_types.specs.declared.sizes.TheConstants.{MOST_ATTRIBUTES};
 ghost use Rattle.grid_model.specs.Tables.{Table, get};
 ghost use Rattle.grid_model.specs.Layouts.{Layout};
-ghost use Rattle.query_paths.specs.Pinned.{IsPinnedTo, TakesSteps};
-ghost use Rattle.query_paths.specs.Calls.{place, OnlyReads};
-ghost use Rattle.query_paths.specs.Paths.{IsFound, HasGetCause};
+ghost use Rattle.query_paths.specs.Pinned.{IsPinnedTo, MakesSteps};
+ghost use Rattle.query_paths.specs.Calls.{place, LeavesPlace};
+ghost use Rattle.query_paths.specs.Paths.{IsGot, HasGetCause};
 
 use crate::Pinned;
 use crate::reading::{read_directory, read_spelled};
@@ -32,11 +32,11 @@ pub fn exact<const K: usize, Q: Pinned<K>, L: Ledger>(
         → IsPinnedTo (place Q.Pinned pinned.old) L t
         → IfErr result (λ e. e ≡ ReadFault) }
     ensures expected { IfOk result
-        (IsFound K (place Q.Pinned pinned.old) key.now.numbers page.new) }
+        (IsGot K (place Q.Pinned pinned.old) key.now.numbers page.new) }
     ensures cause { HasGetCause K (place Q.Pinned pinned.old)
         (Q.faults pinned.old) (Q.faults pinned.new) key.now.numbers page.new result }
-    ensures reads { TakesSteps 2 steps.old steps.new result }
-    ensures same { OnlyReads Q.Pinned pinned.old pinned.new }
+    ensures reads { MakesSteps 2 steps.old steps.new result }
+    ensures same { LeavesPlace Q.Pinned pinned.old pinned.new }
 {
     let _numbers = key.numbers();
     let (part, index) = part_of(pinned.dims().index(&pinned.cell_of(key)));

@@ -12,7 +12,7 @@ ghost use Rattle.grid_model.specs.Cells.{dims, cells, cell_of, InCellBox};
 ghost use Rattle.grid_model.specs.ScaleLaws.{IsCell};
 ghost use Rattle.linear_scales.specs.Queries.{lowest_cell, highest_cell, MeetsQuery};
 ghost use Rattle.disk_trait.specs.Causes.{HasCause};
-ghost use Rattle.query_paths.specs.Pinned.{StaysPinned, IsRead, IsReadIfThere, TakesSteps, TakesAStepIfThere};
+ghost use Rattle.query_paths.specs.Pinned.{StaysPinned, IsRead, IsReadIfThere, MakesSteps, MakesAStepIfThere};
 
 use disk_trait::{DiskFailed, Steps};
 use grid_cells::Dims;
@@ -85,7 +85,7 @@ pub trait Pinned<const K: usize> {
         steps: &mut Steps<L>,
     ) -> Result<u32, DiskFailed>
         requires { 1000 * part < cells (scales self.old) }
-        ensures ticks { TakesSteps 1 steps.old steps.new result }
+        ensures ticks { MakesSteps 1 steps.old steps.new result }
         ensures read { IsRead (pages self.old) (file_page self.old) (Part part) page.new result }
         ensures same { StaysPinned shape scales numbers pages file_page self.old self.new }
         ensures stays { stays self.old self.new }
@@ -101,8 +101,9 @@ pub trait Pinned<const K: usize> {
     ) -> Result<Option<u32>, DiskFailed>
         ensures there { IfOk result (λ o. IsSome o ↔ IsTrue (is_among (numbers self.old) number)) }
         ensures none { IfOk result (λ o. o ≡ None → page.new ≡ page.old) }
-        ensures ticks { TakesAStepIfThere steps.old steps.new result }
-        ensures read { IsReadIfThere (pages self.old) (file_page self.old) (Bucket number) page.new result }
+        ensures ticks { MakesAStepIfThere steps.old steps.new result }
+        ensures read { IsReadIfThere (pages self.old) (file_page self.old) (Bucket number)
+            page.new result }
         ensures same { StaysPinned shape scales numbers pages file_page self.old self.new }
         ensures stays { stays self.old self.new }
         ensures cause { HasCause (faults self.old) (faults self.new) result };

@@ -2,8 +2,8 @@
 ghost use Rattle.std.specs.Prelude.{◌<◌, ◌≤◌, ◌*◌};
 ghost use Rattle.grid_types.specs.declared.sizes.TheConstants.{MOST_ATTRIBUTES};
 ghost use Rattle.grid_model.specs.Cells.{cells};
-ghost use Rattle.query_paths.specs.Pinned.{TakesSteps};
-ghost use Rattle.query_paths.specs.Calls.{place, OnlyReads};
+ghost use Rattle.query_paths.specs.Pinned.{MakesSteps};
+ghost use Rattle.query_paths.specs.Calls.{place, LeavesPlace};
 ghost use Rattle.query_paths.specs.Readings.{IsPartRead, IsBucketRead};
 
 use crate::Pinned;
@@ -26,8 +26,8 @@ pub fn read_directory<const K: usize, Q: Pinned<K>, L: Ledger>(
     ensures read { IsPartRead (place Q.Pinned pinned.old) (Q.faults pinned.old)
         (Q.faults pinned.new) part page.new result }
     ensures later { Q.faults pinned.old ≤ Q.faults pinned.new }
-    ensures reads { TakesSteps 1 steps.old steps.new result }
-    ensures same { OnlyReads Q.Pinned pinned.old pinned.new }
+    ensures reads { MakesSteps 1 steps.old steps.new result }
+    ensures same { LeavesPlace Q.Pinned pinned.old pinned.new }
 {
     let count = (pinned.dims().cells() - 1000 * part).min(1000);
     let Ok(at) = pinned.read_part(part, page, steps) else {
@@ -53,8 +53,8 @@ pub fn read_spelled<const K: usize, Q: Pinned<K>, L: Ledger>(
     ensures read { IsBucketRead K (place Q.Pinned pinned.old) (Q.faults pinned.old)
         (Q.faults pinned.new) number directory page.old page.new result }
     ensures later { Q.faults pinned.old ≤ Q.faults pinned.new }
-    ensures reads { TakesSteps 1 steps.old steps.new result }
-    ensures same { OnlyReads Q.Pinned pinned.old pinned.new }
+    ensures reads { MakesSteps 1 steps.old steps.new result }
+    ensures same { LeavesPlace Q.Pinned pinned.old pinned.new }
 {
     let capacity = pinned.capacity();
     let Ok(read) = pinned.read_bucket(number, page, steps) else {

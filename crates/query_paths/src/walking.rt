@@ -10,8 +10,8 @@ ghost use Rattle.grid_model.specs.Expected.{SoughtCell};
 ghost use Rattle.grid_model.specs.Layouts.{Layout};
 ghost use Rattle.grid_model.specs.ScaleLaws.{IsCell};
 ghost use Rattle.grid_model.specs.Tables.{Table};
-ghost use Rattle.query_paths.specs.Pinned.{IsPinnedTo, TakesSteps};
-ghost use Rattle.query_paths.specs.Calls.{place, OnlyReads};
+ghost use Rattle.query_paths.specs.Pinned.{IsPinnedTo, MakesSteps};
+ghost use Rattle.query_paths.specs.Calls.{place, LeavesPlace};
 ghost use Rattle.query_paths.specs.Paths.{HasQueryCause};
 ghost use Rattle.query_paths.specs.Readings.{IsCellBucketRead};
 ghost use Rattle.query_paths.specs.Walks.{IsHeldGood, IsHeldNow, IsWalked, IsWholeWalk, IsCutShort, HasCellCause, cells_met, AreCellsMet};
@@ -52,7 +52,7 @@ fn hold<const K: usize, Q: Pinned<K>, L: Ledger>(
     ensures held { IsHeldNow (place Q.Pinned pinned.old) part (Q.faults pinned.old)
         (Q.faults pinned.new) room.old room.new steps.old steps.new result }
     ensures later { Q.faults pinned.old ≤ Q.faults pinned.new }
-    ensures same { OnlyReads Q.Pinned pinned.old pinned.new }
+    ensures same { LeavesPlace Q.Pinned pinned.old pinned.new }
 {
     if let Some(held) = room.held {
         if held.part == part {
@@ -79,8 +79,8 @@ fn read_for_cell<const K: usize, Q: Pinned<K>, L: Ledger>(
     ensures read { IsCellBucketRead K (place Q.Pinned pinned.old) cell.now (Q.faults pinned.old)
         (Q.faults pinned.new) number directory page.old page.new result }
     ensures later { Q.faults pinned.old ≤ Q.faults pinned.new }
-    ensures reads { TakesSteps 1 steps.old steps.new result }
-    ensures same { OnlyReads Q.Pinned pinned.old pinned.new }
+    ensures reads { MakesSteps 1 steps.old steps.new result }
+    ensures same { LeavesPlace Q.Pinned pinned.old pinned.new }
 {
     let keys = pinned.keys_of(cell);
     let (at, head) = read_spelled(pinned, number, directory, page, steps)?;
@@ -124,7 +124,7 @@ fn visit_cell<const K: usize, Q: Pinned<K>, L: Ledger, G: Gather<K>>(
         room.new (Q.faults pinned.old) (Q.faults pinned.new) result }
     ensures good { OnOk result (IsHeldGood (place Q.Pinned pinned.old) room.new) }
     ensures marks { length room.new.marks ≡ length room.old.marks }
-    ensures same { OnlyReads Q.Pinned pinned.old pinned.new }
+    ensures same { LeavesPlace Q.Pinned pinned.old pinned.new }
 {
     let (part, place) = part_of(index);
     let directory = hold(pinned, part, room, steps)?;
@@ -167,7 +167,7 @@ pub fn walk<const K: usize, Q: Pinned<K>, L: Ledger, G: Gather<K>>(
         room.new.part.value room.new.bucket.value
         (Q.faults pinned.old) (Q.faults pinned.new) result }
     ensures marks { length room.new.marks ≡ length room.old.marks }
-    ensures same { OnlyReads Q.Pinned pinned.old pinned.new }
+    ensures same { LeavesPlace Q.Pinned pinned.old pinned.new }
 {
     let _sides = counted(&query.sides);
     let dims = pinned.dims();

@@ -2,8 +2,8 @@ use Rattle.std.proofs.Common.{◌∙◌, ℕ, false, Result, refl, sym, subst, a
 use Rattle.std.proofs.lemmas.Result.{err_from_is_err_and}
 use Rattle.grid_types.specs.declared.refusal.Refusal.{Refusal}
 use Rattle.grid_model.specs.Listings.{rows}
-use Rattle.query_paths.specs.Pinned.{TakesSteps}
-use Rattle.query_paths.specs.Paths.{reads_of}
+use Rattle.query_paths.specs.Pinned.{MakesSteps}
+use Rattle.query_paths.specs.Paths.{pages_of_query}
 use Rattle.query_paths.specs.Calls.{place}
 use Rattle.query_paths.proofs.Counts.{count-all}
 use Rattle.query_paths.proofs.Wholly.{found-whole, cut-within}
@@ -30,7 +30,7 @@ returns-in_err-walk-clause-reads g c = λ L t pin.
     let p = place g.Q.Pinned c.args.pinned.now in
     let e = err_from_is_err_and c.from_residual.result c.from_residual.ensures.1 in
     let cut = rw c.in_err-walk.was at (c.walk.ensures.reads L t pin) in
-    subst (λ (r : Result ℕ Refusal). TakesSteps (reads_of L c.args.query.now) c.args.steps.now c.walk.new.steps r) (sym e.1) (cut.least, cut-within p L t pin c.args.query.now c.counted-sides.ensures c.requires.lawful c.walk.ensures.met c.args.steps.now c.walk.new.steps cut)
+    subst (λ (r : Result ℕ Refusal). MakesSteps (pages_of_query L c.args.query.now) c.args.steps.now c.walk.new.steps r) (sym e.1) (cut.least, cut-within p L t pin c.args.query.now c.counted-sides.ensures c.requires.lawful c.walk.ensures.met c.args.steps.now c.walk.new.steps cut)
 
 pub returns-clause-answer : goal.returns-clause-answer
 returns-clause-answer g c = λ L t pin.

@@ -4,8 +4,8 @@ use Rattle.grid_types.specs.declared.update.Record.{Record}
 use Rattle.grid_types.specs.declared.refusal.Refusal.{Refusal}
 use Rattle.grid_model.specs.Listings.{rows}
 use Rattle.grid_model.specs.Tables.{Table, pairs_of}
-use Rattle.query_paths.specs.Pinned.{TakesSteps}
-use Rattle.query_paths.specs.Paths.{reads_of}
+use Rattle.query_paths.specs.Pinned.{MakesSteps}
+use Rattle.query_paths.specs.Paths.{pages_of_query}
 use Rattle.query_paths.specs.Calls.{place}
 use Rattle.query_paths.proofs.Listed.{listing-is, rows-ascend}
 use Rattle.query_paths.proofs.Wholly.{found-whole, cut-within}
@@ -32,7 +32,7 @@ returns-in_err-walk-clause-reads g c = λ L t pin.
     let p = place g.Q.Pinned c.args.pinned.now in
     let e = err_from_is_err_and c.from_residual.result c.from_residual.ensures.1 in
     let cut = rw c.in_err-walk.was at (c.walk.ensures.reads L t pin) in
-    subst (λ (r : Result (List (Record g.row.K)) Refusal). TakesSteps (reads_of L c.args.query.now) c.args.steps.now c.walk.new.steps r) (sym e.1) (cut.least, cut-within p L t pin c.args.query.now c.counted-sides.ensures c.requires.lawful c.walk.ensures.met c.args.steps.now c.walk.new.steps cut)
+    subst (λ (r : Result (List (Record g.row.K)) Refusal). MakesSteps (pages_of_query L c.args.query.now) c.args.steps.now c.walk.new.steps r) (sym e.1) (cut.least, cut-within p L t pin c.args.query.now c.counted-sides.ensures c.requires.lawful c.walk.ensures.met c.args.steps.now c.walk.new.steps cut)
 
 pub returns-clause-answer : goal.returns-clause-answer
 returns-clause-answer g c = λ L t pin.

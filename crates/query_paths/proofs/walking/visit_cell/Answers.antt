@@ -7,7 +7,7 @@ use Rattle.grid_types.specs.declared.sizes.TheConstants.{WORDS_ON_PAGE}
 use Rattle.query_paths.specs.Pinned.{Place}
 use Rattle.query_paths.specs.Calls.{place}
 use Rattle.query_paths.specs.Readings.{IsCellBucketRead, IsGoodForCell}
-use Rattle.query_paths.specs.Walks.{IsBoxCell, IsHeldBy, numbers_of}
+use Rattle.query_paths.specs.Walks.{IsBoxCell, IsHeldBy, bucket_numbers}
 use Rattle.query_paths.proofs.Coming.{each-among, marks-kept, part-there, held-part, names-none, cell-cause, read-among, cell-expected, pinned-among}
 use Rattle.query_paths.proofs.Found.{few-many}
 use Rattle.query_paths.proofs.Refusing.{part-names}
@@ -54,7 +54,7 @@ returns-then-is_marked-clause-walked g c = λ b start inside w.
     let is_in : IsBoxCell p b c.args.cell.now = record { is_cell = c.requires.cell; inside = inside } in
     let by = subst (λ (r : ℕ). IsHeldBy p r c.args.room.now c.hold.new.room c.args.steps.now c.hold.new.steps c.in_ok-directory.directory) first c.in_ok-directory.ensures.held in
     let held = part-held p c.args.query.now b i start H c.args.cell.now is_in c.requires.at c.args.room.now c.hold.new.room c.args.steps.now c.hold.new.steps c.in_ok-directory.directory w by in
-    let has : IsTrue (is_among (numbers_of held.walked.read) n) = sym (held.walked.marked n) ∙ sym c.is_marked.ensures ∙ c.if-is_marked.true in
+    let has : IsTrue (is_among (bucket_numbers held.walked.read) n) = sym (held.walked.marked n) ∙ sym c.is_marked.ensures ∙ c.if-is_marked.true in
     let among = read-among p b held.walked.parts held.walked.read n held.walked.reading has in
     passed p c.args.query.now b i start H c.args.cell.now is_in c.requires.at c.hold.new.room c.hold.new.steps held n (part-names p c.args.cell.now c.part_of-part.result.0 c.hold.new.room.part.value c.in_ok-directory.directory n part among) has
 
@@ -81,7 +81,7 @@ returns-in_err-head-clause-reads g c = λ b L t start pin inside w.
     let is_in : IsBoxCell p b c.args.cell.now = record { is_cell = c.requires.cell; inside = inside } in
     let by = subst (λ (r : ℕ). IsHeldBy p r c.args.room.now c.hold.new.room c.args.steps.now c.hold.new.steps c.in_ok-directory.directory) first c.in_ok-directory.ensures.held in
     let held = part-held p c.args.query.now b i start H c.args.cell.now is_in c.requires.at c.args.room.now c.hold.new.room c.args.steps.now c.hold.new.steps c.in_ok-directory.directory w by in
-    let out : is_among (numbers_of held.walked.read) n ≡ false = sym (held.walked.marked n) ∙ sym c.is_marked.ensures ∙ c.if-is_marked.false in
+    let out : is_among (bucket_numbers held.walked.read) n ≡ false = sym (held.walked.marked n) ∙ sym c.is_marked.ensures ∙ c.if-is_marked.false in
     let e = err_from_is_err_and c.from_residual-in_err-head.result c.from_residual-in_err-head.ensures.1 in
     let among = pinned-among p L t pin c.args.cell.now c.requires.cell c.part_of-part.result.0 c.hold.new.room.part.value c.in_ok-directory.directory n part in
     let names = part-names p c.args.cell.now c.part_of-part.result.0 c.hold.new.room.part.value c.in_ok-directory.directory n part among in
@@ -98,7 +98,7 @@ returns-in_default-clause-reads g c = λ b L t start pin inside w.
     let is_in : IsBoxCell p b c.args.cell.now = record { is_cell = c.requires.cell; inside = inside } in
     let by = subst (λ (r : ℕ). IsHeldBy p r c.args.room.now c.hold.new.room c.args.steps.now c.hold.new.steps c.in_ok-directory.directory) first c.in_ok-directory.ensures.held in
     let held = part-held p c.args.query.now b i start H c.args.cell.now is_in c.requires.at c.args.room.now c.hold.new.room c.args.steps.now c.hold.new.steps c.in_ok-directory.directory w by in
-    let out : is_among (numbers_of held.walked.read) n ≡ false = sym (held.walked.marked n) ∙ sym c.is_marked.ensures ∙ c.if-is_marked.false in
+    let out : is_among (bucket_numbers held.walked.read) n ≡ false = sym (held.walked.marked n) ∙ sym c.is_marked.ensures ∙ c.if-is_marked.false in
     let good = subst (λ (x : Place). IsGoodForCell g.row.K x c.args.cell.now n c.read_for_cell.new.page c.in_ok-head.head) c.in_ok-directory.ensures.same.same_place c.in_ok-head.ensures.read in
     let names = part-names p c.args.cell.now c.part_of-part.result.0 c.hold.new.room.part.value c.in_ok-directory.directory n part good.named in
     cut-at-bucket p c.args.query.now b i start H c.args.cell.now is_in c.requires.at c.hold.new.room c.hold.new.steps held n names out c.read_for_cell.new.steps (omega (arith, c.in_ok-head.ensures.reads)) (omega (arith, c.in_ok-head.ensures.reads))
@@ -114,7 +114,7 @@ returns-clause-walked g c = λ b start inside w.
     let is_in : IsBoxCell p b c.args.cell.now = record { is_cell = c.requires.cell; inside = inside } in
     let by = subst (λ (r : ℕ). IsHeldBy p r c.args.room.now c.hold.new.room c.args.steps.now c.hold.new.steps c.in_ok-directory.directory) first c.in_ok-directory.ensures.held in
     let held = part-held p c.args.query.now b i start H c.args.cell.now is_in c.requires.at c.args.room.now c.hold.new.room c.args.steps.now c.hold.new.steps c.in_ok-directory.directory w by in
-    let out : is_among (numbers_of held.walked.read) n ≡ false = sym (held.walked.marked n) ∙ sym c.is_marked.ensures ∙ c.if-is_marked.false in
+    let out : is_among (bucket_numbers held.walked.read) n ≡ false = sym (held.walked.marked n) ∙ sym c.is_marked.ensures ∙ c.if-is_marked.false in
     let good = subst (λ (x : Place). IsGoodForCell g.row.K x c.args.cell.now n c.read_for_cell.new.page c.in_ok-head.head) c.in_ok-directory.ensures.same.same_place c.in_ok-head.ensures.read in
     let names = part-names p c.args.cell.now c.part_of-part.result.0 c.hold.new.room.part.value c.in_ok-directory.directory n part good.named in
     let bytes = c.read_for_cell.new.page in

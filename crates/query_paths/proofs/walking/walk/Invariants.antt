@@ -1,13 +1,13 @@
 use Rattle.std.proofs.Common.{◌≡◌, ◌≤◌, ◌-◌, length}
 use Rattle.grid_model.specs.Lists.{product}
 use Rattle.grid_model.specs.Cells.{dims, cell_index}
-use Rattle.query_paths.specs.Calls.{place, OnlyReads}
+use Rattle.query_paths.specs.Calls.{place, LeavesPlace}
 use Rattle.query_paths.specs.Walks.{IsBoxCell, IsHeldGood, IsWalked, cells_met}
 use Rattle.query_paths.proofs.walking.walk.Given as goal
 
 abbrev pub invariant-cells : goal.invariant-cells
 invariant-cells g l = record {
-  same : OnlyReads g.Q.Pinned l.fn.pinned l.pinned;
+  same : LeavesPlace g.Q.Pinned l.fn.pinned l.pinned;
   later : g.Q.Pinned.faults l.fn.pinned ≤ g.Q.Pinned.faults l.pinned;
   is_in : IsBoxCell (place g.Q.Pinned l.fn.pinned) (cells_met (g.Q.Pinned.scales l.fn.pinned) l.query) l.cell;
   good : IsHeldGood (place g.Q.Pinned l.fn.pinned) l.room;
