@@ -1,0 +1,4 @@
+pub mod Drawing
+pub mod Rounds
+pub mod Places
+pub mod Worked
