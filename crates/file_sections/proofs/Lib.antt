@@ -1,0 +1,6 @@
+mod Meeting
+mod DataPages
+mod Committing
+mod RootSteps
+mod Closing
+mod Finishing
