@@ -26,18 +26,18 @@ use Rattle.file_images.proofs.PagesApart.{few, table_below, gate_high, gate_belo
 use Rattle.file_images.proofs.Frames.{used_few, used_slot, shape_stays, roots_stay, loose_stays, placed_stays, next_stays, gate_page_stays}
 
 module _ {X : Type 0} (f : X → X) (x y : X) where
-  by_here : (h : ℕ) → of_half (first_by h f x) (second_by h f y) h ≡ f (of_half x y h)
+  pub by_here : (h : ℕ) → of_half (first_by h f x) (second_by h f y) h ≡ f (of_half x y h)
   by_here zero = refl
   by_here (suc h) = refl
 
-  by_other : (h j : ℕ) → h < 2 → j < 2 → j ≢ h → of_half (first_by h f x) (second_by h f y) j ≡ of_half x y j
+  pub by_other : (h j : ℕ) → h < 2 → j < 2 → j ≢ h → of_half (first_by h f x) (second_by h f y) j ≡ of_half x y j
   by_other zero zero two too apart = absurd (apart refl)
   by_other zero (suc j) two too apart = refl
   by_other (suc h) zero two too apart = refl
   by_other (suc h) (suc j) two too apart = absurd (apart (omega (arith, two, too)))
 
 -- an element of a list whose elements were made looser
-from_loose : {K : ℕ} (xs : List (PlacedBatch K)) (i : ℕ) (p : PlacedBatch K) → slice_get (map loosened xs) i ≡ Some p → (q : PlacedBatch K) × (slice_get xs i ≡ Some q) × (p ≡ loosened q)
+pub from_loose : {K : ℕ} (xs : List (PlacedBatch K)) (i : ℕ) (p : PlacedBatch K) → slice_get (map loosened xs) i ≡ Some p → (q : PlacedBatch K) × (slice_get xs i ≡ Some q) × (p ≡ loosened q)
 from_loose [] i p is = absurd (some-not-none p (sym is))
 from_loose (x ∷ xs) zero p is = (x, refl, sym (same_Some (loosened x) p is))
 from_loose (x ∷ xs) (suc i) p is = from_loose xs i p is

@@ -12,7 +12,7 @@ use Rattle.grid_model.specs.Spellings.{LoggedBatch}
 use Rattle.grid_model.specs.Images.{logged_effect, layout_after}
 use Rattle.grid_model.specs.Roots.{WholeRoot}
 use Rattle.file_images.specs.Kept.{GateRule, Counting, Barred, PlacedBatch, NextSlot, Shut, Flying, InDoubt, Kept, OtherHeader, LooseHeader, MayBeNewest, on_half, used}
-use Rattle.file_images.specs.Steps.{ruled, with_placed, with_slot, with_barred, with_next_shut, with_tried, with_root, with_turned}
+use Rattle.file_images.specs.Steps.{ruled, with_placed, with_slot, with_barred, with_next_shut, with_flying}
 use Rattle.file_images.specs.Leads.{Meaning, behind, updates_in, RootHolds, CountsOn, reach, IsKnown, MayFollow, RootLeads, Leads}
 use Rattle.file_images.proofs.Halves.{half_added, half_kept, get_added, get_left, get_last}
 use Rattle.file_images.proofs.Elements.{Among, here, there, among_left, among_right, from_append, among_these, contains_it}
@@ -37,7 +37,7 @@ pub follows_over : {K : ℕ} (k : Kept K) (root : WholeRoot) (other : OtherHeade
     → MayFollow k w L t taken place d → MayFollow (kept_with k root other a b h n) w L t taken place d
 follows_over k root other a b h n w L t taken place d is = record { session = is.session; first = is.first; may = is.may }
 
-reach_up : {K : ℕ} (n : NextSlot K) (place : ℕ) → place ≤ reach n place
+pub reach_up : {K : ℕ} (n : NextSlot K) (place : ℕ) → place ≤ reach n place
 reach_up Shut place = omega arith
 reach_up Flying place = omega arith
 reach_up (InDoubt b) place = omega arith
@@ -56,6 +56,9 @@ is_in_doubt (InDoubt b) = true
 pub shut_no_doubt : {K : ℕ} {A : Type 0} (d : LoggedBatch K) → Shut ≡ InDoubt d → A
 shut_no_doubt d e = absurd (true≢false (sym (ap is_in_doubt e)))
 
+flying_no_doubt : {K : ℕ} {A : Type 0} (d : LoggedBatch K) → Flying ≡ InDoubt d → A
+flying_no_doubt d e = absurd (true≢false (sym (ap is_in_doubt e)))
+
 abbrev is_flying : {K : ℕ} → NextSlot K → Bool
 is_flying Shut = false
 is_flying Flying = true
@@ -65,22 +68,28 @@ pub shut_not_flying : {K : ℕ} → ◌≡◌ {A = NextSlot K} Shut Flying → �
 shut_not_flying e = true≢false (sym (ap is_flying e))
 
 module _ {K : ℕ} (k : Kept K) (w : WholeRoot) (m : Meaning K) (c : RootLeads k w m) where
-  -- where nothing is on the next slot
-  pub leads_shut : RootLeads (with_next_shut k) w m
-  leads_shut = record {
+  -- where no batch is in doubt on the next slot
+  leads_undoubted : (n : NextSlot K) → ((d : LoggedBatch K) → n ≡ InDoubt d → ⊥) → reach n m.place ≡ m.place → RootLeads (record k { next = n }) w m
+  leads_undoubted n none near = record {
     layout = c.layout;
     table = c.table;
-    holds = holds_over k k.root k.other k.first k.second k.half Shut w c.layout c.table c.holds;
+    holds = holds_over k k.root k.other k.first k.second k.half n w c.layout c.table c.holds;
     taken = c.taken;
     chain = c.chain;
     there = λ b on. let at = c.there b on in (at.0, record { half = at.1.half; slot = at.1.slot; two = at.1.two; there = at.1.there });
-    known = λ h i p two is mine. known_nearer w.fields.front c.taken c.taken (reach k.next m.place) m.place p (reach_up k.next m.place) (λ b on. on) (c.known h i p two is mine);
+    known = λ h i p two is mine. known_nearer w.fields.front c.taken c.taken (reach k.next m.place) (reach n m.place) p (omega (arith, near, reach_up k.next m.place)) (λ b on. on) (c.known h i p two is mine);
     sessions = c.sessions;
     makes_table = c.makes_table;
     makes_layout = c.makes_layout;
     may = c.may;
-    doubt = λ d is. shut_no_doubt d is;
+    doubt = λ d is. absurd (none d is);
   }
+
+  pub leads_shut : RootLeads (with_next_shut k) w m
+  leads_shut = leads_undoubted Shut (λ d is. shut_no_doubt d is) refl
+
+  pub leads_flying : RootLeads (with_flying k) w m
+  leads_flying = leads_undoubted Flying (λ d is. flying_no_doubt d is) refl
 
   -- where other roots are kept, as one that was tried
   pub leads_over : (root : WholeRoot) (other : OtherHeader) (h : ℕ) → RootLeads (kept_with k root other k.first k.second h k.next) w m

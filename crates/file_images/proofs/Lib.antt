@@ -21,6 +21,9 @@ pub mod Histories
 pub mod Meanings
 pub mod Settling
 pub mod Covering
+pub mod Leading
+pub mod PagesLeading
+pub mod RootMoments
 pub mod NewFile
 pub mod NewImage
 mod Rows

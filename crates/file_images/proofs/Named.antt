@@ -30,7 +30,7 @@ among-right [] ys n h = h
 among-right (x ∷ xs) ys n h = or_right (x == n) (is_among (xs ++ ys) n) (among-right xs ys n h)
 
 -- an entry of a list stands in it
-entry-there : (xs : List ℕ) (i : ℕ) → i < length xs → Contains xs (slice_index xs i)
+pub entry-there : (xs : List ℕ) (i : ℕ) → i < length xs → Contains xs (slice_index xs i)
 entry-there xs i lt = (i, lt, get_or_default xs i (slice_index xs i) 0 lt)
 
 -- the page of a bucket number is one that the table names

@@ -10,3 +10,4 @@ pub mod Leads
 pub mod KeptLaws
 pub mod NewFiles
 pub mod MeetingLaws
+pub mod LeadingLaws

@@ -1,5 +1,5 @@
 //! The laws of what a file keeps, as contracts of functions without code.
-ghost use Rattle.file_images.specs.KeptLaws.{WritesApartLeave, ShownMeans, DoubtLeadsOn, CommittingShows, ClearingShows, RootStepsShow};
+ghost use Rattle.file_images.specs.KeptLaws.{WritesApartLeave, ShownMeans, DoubtLeadsOn, CommittingShows, ClearingShows, RootStepsShow, RootMomentsShow};
 ghost use Rattle.file_images.specs.NewFiles.{NewFilesMean};
 
 /// The law of pages apart: a write on a page of which nothing is kept leaves what an image shows.
@@ -28,9 +28,10 @@ pub fn clearing_law<const K: usize>()
     ensures { ClearingShows K }
 {}
 
-/// The law of root steps: they change what is shown of the roots alone.
+/// The laws of root steps: they change what is shown of the roots alone; and what is shown at each of their moments.
 pub fn root_law<const K: usize>()
-    ensures { RootStepsShow K }
+    ensures alone { RootStepsShow K }
+    ensures moments { RootMomentsShow K }
 {}
 
 /// The law of new files: the image of a new file shows what a new file keeps, and has the meaning to which that leads: at

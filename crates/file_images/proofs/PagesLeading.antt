@@ -1,0 +1,116 @@
+-- What data pages that are written, settled or let go leave of where what is kept leads.
+use Rattle.std.proofs.Common.{◌≡◌, ◌≢◌, ◌<◌, ◌++◌, inl, inr, ℕ, true, List, [], ◌∷◌, length, map, fold, slice_index, IsTrue, refl, sym, ap, subst, ◌∙◌, arith, ltb-true}
+use Rattle.std.specs.Prelude.{slice_get, slice_set, slice_index_or, Option, Some, None, Contains, IsSome, nat_lt}
+use Rattle.std.specs.Option.{is_some}
+use Rattle.std.proofs.lemmas.Bool.{cases_eq}
+use Rattle.std.proofs.lemmas.List.Elements.{Contains-append_left, Contains-append_right}
+use Rattle.grid_types.specs.declared.owner.Owner.{Owner}
+use Rattle.grid_types.specs.declared.owner.Owner.TheVariants.{Bucket, Part}
+use Rattle.grid_model.specs.Lists.{is_among}
+use Rattle.grid_model.specs.Tables.{Table}
+use Rattle.grid_model.specs.Layouts.{Layout, box}
+use Rattle.grid_model.specs.Lawful.{pages_named}
+use Rattle.grid_model.specs.Images.{numbers_of}
+use Rattle.grid_model.specs.Roots.{WholeRoot}
+use Rattle.grid_model.specs.Cells.{parts}
+use Rattle.grid_model.proofs.Boxes.{some-not-none}
+use Rattle.grid_model.proofs.Members.{contains-among, contains-first, contains-later}
+use Rattle.grid_model.proofs.Numbered.{found-among}
+use Rattle.history_pages.specs.OwnerPages.{owner_page}
+use Rattle.history_pages.proofs.Named.{bucket-named, part-named}
+use Rattle.file_images.specs.Kept.{MayBeNewest, Kept}
+use Rattle.file_images.specs.Meets.{AreFewer, Covers}
+use Rattle.file_images.specs.Steps.{with_page, without_page, settle_page, with_settled, ask_nothing, without_pages}
+use Rattle.file_images.specs.Leads.{Meaning, page_named, RootHolds, RootLeads, Leads}
+use Rattle.file_images.specs.LeadingLaws.{NamesNone}
+use Rattle.file_images.proofs.Named.{entry-there, named-by-number}
+use Rattle.file_images.proofs.Settling.{set_other, set_same}
+
+-- a root names the page of each owner of the layout that it holds
+module _ {K : ℕ} (k : Kept K) (w : WholeRoot) (L : Layout K) (t : Table) (holds : RootHolds k w L t) where
+  pub named_there : (o : Owner) (bytes : List ℕ) → owner_page L t o ≡ Some bytes → Contains (w.area.parts ++ pages_named w.area.table) (page_named w.area o)
+  named_there (Bucket n) bytes is =
+      let some : IsSome (box L n) = sym (bucket-named L t n) ∙ ap is_some is in
+      let numbered : Contains (numbers_of w.area.table) n = contains-among (numbers_of w.area.table) n (ap (λ ns. is_among ns n) (sym holds.numbers) ∙ found-among L.boxes n some) in
+      Contains-append_right w.area.parts (pages_named w.area.table) (slice_index w.area.table n) (contains-among (pages_named w.area.table) (slice_index w.area.table n) (named-by-number w.area.table n numbered))
+  named_there (Part p) bytes is =
+      let lt : p < parts L.scales = ltb-true p (parts L.scales) (sym (part-named L t p) ∙ ap is_some is) in
+      Contains-append_left w.area.parts (pages_named w.area.table) (slice_index w.area.parts p) (entry-there w.area.parts p (omega (arith, lt, holds.directory)))
+
+-- what a root's pages always hold stays where other pages change
+module _ {K : ℕ} (k : Kept K) (always fresh : List (Option (List ℕ))) (m : Meaning K) (same : (w : WholeRoot) (p : ℕ) → MayBeNewest k w → Contains (w.area.parts ++ pages_named w.area.table) p → slice_get always p ≡ slice_get k.always p) where
+  holds_still : (w : WholeRoot) (L : Layout K) (t : Table) → MayBeNewest k w → RootHolds k w L t → RootHolds (record k { always = always; fresh = fresh }) w L t
+  holds_still w L t newest was = record {
+    scales = was.scales;
+    directory = was.directory;
+    numbers = was.numbers;
+    stands = was.stands;
+    records = was.records;
+    pages = λ o bytes is. same w (page_named w.area o) newest (named_there k w L t was o bytes is) ∙ was.pages o bytes is;
+  }
+
+  pages_lead : Leads k m → Leads (record k { always = always; fresh = fresh }) m
+  pages_lead leads w newest =
+      let c = leads w newest in
+      record {
+        layout = c.layout;
+        table = c.table;
+        holds = holds_still w c.layout c.table newest c.holds;
+        taken = c.taken;
+        chain = c.chain;
+        there = λ b on. let at = c.there b on in (at.0, record { half = at.1.half; slot = at.1.slot; two = at.1.two; there = at.1.there });
+        known = c.known;
+        sessions = c.sessions;
+        makes_table = c.makes_table;
+        makes_layout = c.makes_layout;
+        may = c.may;
+        doubt = λ d is. let f = c.doubt d is in record { session = f.session; first = f.first; may = f.may };
+      }
+
+-- what fresh pages read as leads nowhere else
+pub leads_fresh : {K : ℕ} (k : Kept K) (fresh : List (Option (List ℕ))) (m : Meaning K) → Leads k m → Leads (record k { fresh = fresh }) m
+leads_fresh k fresh m leads = pages_lead k k.always fresh m (λ w p newest named. refl) leads
+
+settled_beside : (fresh always : List (Option (List ℕ))) (pages : List ℕ) (p : ℕ) → (Contains pages p → ⊥) → slice_get (fold (settle_page fresh) always pages) p ≡ slice_get always p
+settled_beside fresh always [] p none = refl
+settled_beside fresh always (q ∷ qs) p none =
+    settled_beside fresh (settle_page fresh always q) qs p (λ m. none (contains-later q qs p m))
+    ∙ set_other always q p (slice_index_or fresh q None) (λ e. none (subst (λ (n : ℕ). Contains (q ∷ qs) n) e (contains-first q qs)))
+
+unasked_beside : (always : List (Option (List ℕ))) (pages : List ℕ) (p : ℕ) → (Contains pages p → ⊥) → slice_get (fold ask_nothing always pages) p ≡ slice_get always p
+unasked_beside always [] p none = refl
+unasked_beside always (q ∷ qs) p none =
+    unasked_beside (ask_nothing always q) qs p (λ m. none (contains-later q qs p m))
+    ∙ set_other always q p None (λ e. none (subst (λ (n : ℕ). Contains (q ∷ qs) n) e (contains-first q qs)))
+
+-- pages that are settled or let go, where no newest root names them
+pub leads_settled : {K : ℕ} (k : Kept K) (m : Meaning K) (pages : List ℕ) → NamesNone k pages → Leads k m → Leads (with_settled k pages) m
+leads_settled k m pages none leads = pages_lead k (fold (settle_page k.fresh) k.always pages) k.fresh m (λ w p newest named. settled_beside k.fresh k.always pages p (λ on. none w p newest on named)) leads
+
+pub leads_let_go : {K : ℕ} (k : Kept K) (m : Meaning K) (pages : List ℕ) → NamesNone k pages → Leads k m → Leads (without_pages k pages) m
+leads_let_go k m pages none leads = pages_lead k (fold ask_nothing k.always pages) (fold ask_nothing k.fresh pages) m (λ w p newest named. unasked_beside k.always pages p (λ on. none w p newest on named)) leads
+
+fewer_unasked : (pages : List ℕ) (all : List (Option (List ℕ))) → AreFewer all (fold ask_nothing all pages)
+fewer_unasked [] all p bytes is = is
+fewer_unasked (q ∷ qs) all p bytes is =
+    let was : slice_get (slice_set all q None) p ≡ Some (Some bytes) = fewer_unasked qs (ask_nothing all q) p bytes is in
+    elim (cases_eq q p) [
+      | inl e ↦ absurd (some-not-none bytes (set_same all q None (Some bytes) (subst (λ (n : ℕ). slice_get (slice_set all q None) n ≡ Some (Some bytes)) (sym e) was)))
+      | inr apart ↦ sym (set_other all q p None apart) ∙ was
+    ]
+
+-- to ask for fewer pages is covered
+pub covers_let_go : {K : ℕ} (k : Kept K) (pages : List ℕ) → Covers k (without_pages k pages)
+covers_let_go k pages = record {
+  shape = refl;
+  always = fewer_unasked pages k.always;
+  fresh = fewer_unasked pages k.fresh;
+  root = refl;
+  other = refl;
+  first = refl;
+  second = refl;
+  half = refl;
+  next = inl refl;
+  reads = omega arith;
+  writes = omega arith;
+}
