@@ -42,8 +42,7 @@ module _ {K : ℕ} (open_ones : List (LoggedBatch K)) (to : ℕ) where
       (sym chain, found_none (λ b. b.first == at + 1) open_ones (λ b m. differs b.first (at + 1) (λ e. elim (known b m) [ inl low ↦ absurd (omega (arith, low, e)) | inr (inl none) ↦ elim none [ ] | inr (inr far) ↦ absurd (omega (arith, far, e, chain)) ])))
   joined at (c ∷ bs) chain there_all known =
       let up = chain_up (at + length c.updates) to bs chain.2 in
-      let only : (y : LoggedBatch K) → Among y open_ones → (y.first == at + 1) ≡ true → y ≡ c = λ y m is. first_of y (eqb-true y.first (at + 1) is) (known y m) in
-      (
+      let only : (y : LoggedBatch K) → Among y open_ones → (y.first == at + 1) ≡ true → y ≡ c = λ y m is. first_of y (eqb-true y.first (at + 1) is) (known y m) in (
         found_one (λ b. b.first == at + 1) open_ones c (there_all c here) (eq-eqb c.first (at + 1) chain.0) only,
         joined (at + length c.updates) bs chain.2 (λ b m. there_all b (there m)) (λ b m. later b (known b m)),
       )

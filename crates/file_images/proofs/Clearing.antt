@@ -1,6 +1,6 @@
 -- What an image shows while the gates of the half that is not current are closed, and afterwards.
-use Rattle.std.proofs.Common.{◌≡◌, ◌≢◌, ◌<◌, ◌≤◌, ◌⊎◌, inl, inr, ◌+◌, ◌*◌, ℕ, zero, suc, List, [], ◌∷◌, length, map, slice_index, refl, sym, ap, subst, ◌∙◌, arith}
-use Rattle.std.specs.Prelude.{slice_get, Option, Some, None}
+use Rattle.std.proofs.Common.{◌≡◌, ◌≢◌, ◌<◌, ◌≤◌, ◌⊎◌, inl, inr, ◌+◌, ℕ, zero, suc, List, [], ◌∷◌, length, map, refl, sym, ap, subst, ◌∙◌, arith}
+use Rattle.std.specs.Prelude.{slice_get, Option, Some}
 use Rattle.std.proofs.lemmas.Bool.{cases_eq}
 use Rattle.std.proofs.lemmas.List.{length-map}
 use Rattle.std.proofs.lemmas.Option.{same_Some}
@@ -18,7 +18,7 @@ use Rattle.journal_slots.specs.Gates.{IsGatePage, gates_in}
 use Rattle.journal_slots.proofs.DifferentPages.{gate_pages_differ, slot_page_is_no_gate_page}
 use Rattle.journal_slots.proofs.Frames.{gate_at_is, gate_byte_stays_by_page, page_stays_in_clearing, gates_in_clearing}
 use Rattle.file_roots.proofs.Headers.{header_two}
-use Rattle.file_images.specs.Kept.{PlacedBatch, OtherHeader, Kept, of_half, on_half, used, next_number}
+use Rattle.file_images.specs.Kept.{PlacedBatch, OtherHeader, Kept, of_half, on_half, used}
 use Rattle.file_images.specs.Shows.{HoldsPages, gate_in, ShowsPlaced, ShowsNext, Shows}
 use Rattle.file_images.specs.Meets.{IsLooseUnder}
 use Rattle.file_images.specs.Steps.{loosened, first_by, second_by, none_used, with_loose, with_shut}

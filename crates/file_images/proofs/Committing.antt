@@ -18,7 +18,7 @@ use Rattle.journal_slots.specs.Gates.{IsGatePage}
 use Rattle.journal_slots.proofs.DifferentPages.{gate_pages_differ, slot_page_is_no_gate_page, slot_pages_differ}
 use Rattle.journal_slots.proofs.Frames.{page_stays_in_commit, gates_in_commit}
 use Rattle.file_roots.proofs.Headers.{header_two}
-use Rattle.file_images.specs.Kept.{Counting, PlacedBatch, NextSlot, Shut, InDoubt, Kept, OtherHeader, on_half, used, next_number}
+use Rattle.file_images.specs.Kept.{Counting, PlacedBatch, NextSlot, Shut, Kept, OtherHeader, on_half, used}
 use Rattle.file_images.specs.Shows.{HoldsPages, gate_in, ShowsPlaced, ShowsNext, Shows}
 use Rattle.file_images.specs.Meets.{IsLooseUnder}
 use Rattle.file_images.specs.Steps.{IsNextSlot, ruled, with_doubt, with_placed, with_slot}

@@ -1,12 +1,13 @@
 -- What meets what was asked meets what is covered by it.
-use Rattle.std.proofs.Common.{◌≡◌, ◌≤◌, ◌⊎◌, inl, inr, ℕ, List, refl, sym, subst, ◌∙◌, arith}
+use Rattle.std.proofs.Common.{◌≡◌, ◌<◌, inl, inr, ℕ, zero, suc, List, refl, sym, subst, ◌∙◌, arith}
 use Rattle.disk_trait.specs.declared.disk.Disk.{Ghosts}
 use Rattle.disk_trait.specs.Calls.{IsSynced}
-use Rattle.file_images.specs.Kept.{NextSlot, Flying, Kept, on_half, used}
+use Rattle.file_images.specs.Kept.{NextSlot, Shut, Kept, used}
 use Rattle.file_images.specs.Shows.{HoldsPages, ShowsNext, Shows}
 use Rattle.file_images.specs.Meets.{Meets, Covers}
-use Rattle.file_images.specs.Steps.{with_settled}
+use Rattle.file_images.specs.Steps.{with_settled, other_half, with_turned}
 use Rattle.file_images.proofs.Settling.{holds_settled}
+use Rattle.file_images.proofs.Found.{zero_behind}
 
 -- what is kept, with less said of data pages, another next slot and other counts
 abbrev with_less : {K : ℕ} → Kept K → Kept K → Kept K
@@ -88,7 +89,7 @@ covers_then a b c x y = record {
   first = y.first ∙ x.first;
   second = y.second ∙ x.second;
   half = y.half ∙ x.half;
-  next = elim y.next [ | inr flying ↦ inr flying | inl same ↦ elim x.next [ inl as_before ↦ inl (same ∙ as_before) | inr flying ↦ inr (same ∙ flying) ] ];
+  next = elim y.next [ inr flying ↦ inr flying | inl same ↦ elim x.next [ inl as_before ↦ inl (same ∙ as_before) | inr flying ↦ inr (same ∙ flying) ] ];
   reads = omega (arith, x.reads, y.reads);
   writes = omega (arith, x.writes, y.writes);
 }
@@ -109,6 +110,35 @@ settled_shows k pages image was now = record {
 pub settled_meets : {K : ℕ} {D : Type 0} (g : Ghosts D) (k : Kept K) (pages : List ℕ) (d : D) → Meets g k d → IsSynced g d → Meets g (with_settled k pages) d
 settled_meets g k pages d was synced = record {
   crash = λ h image may. settled_shows k pages image (was.crash h image may) (subst (HoldsPages k.shape k.fresh) (sym (synced.only h image may)) (was.fresh h));
+  loose = was.loose;
+  fresh = was.fresh;
+  reads = was.reads;
+  writes = was.writes;
+  size = was.size;
+}
+
+-- where nothing is on the next slot, the halves' roles may be exchanged
+pub turned_shows : {K : ℕ} (k : Kept K) (image : List ℕ) → k.next ≡ Shut → Shows k image → Shows (with_turned k) image
+turned_shows {K} k image shut was =
+    let two = other_two k.half in
+    record {
+      sizes = record { two = two; first = was.sizes.first; second = was.sizes.second };
+      shape = was.shape;
+      roots = was.roots;
+      pages = was.pages;
+      formed = was.formed;
+      slots = was.slots;
+      unused = λ h i is. zero_behind k image was shut h i is.two is.inside is.behind;
+      next = λ lt. subst (λ (n : NextSlot K). ShowsNext k.shape (other_half k.half) (used k (other_half k.half)) n image) (sym shut) (zero_behind k image was shut (other_half k.half) (used k (other_half k.half)) two lt (omega arith));
+    }
+  where
+    other_two : (h : ℕ) → other_half h < 2
+    other_two zero = omega arith
+    other_two (suc h) = omega arith
+
+pub turned_meets : {K : ℕ} {D : Type 0} (g : Ghosts D) (k : Kept K) (d : D) → k.next ≡ Shut → Meets g k d → Meets g (with_turned k) d
+turned_meets g k d shut was = record {
+  crash = λ h image may. turned_shows k image shut (was.crash h image may);
   loose = was.loose;
   fresh = was.fresh;
   reads = was.reads;

@@ -1,5 +1,5 @@
 -- What is found in an image that shows what a file keeps, with nothing on the next slot: the gates, and the batches.
-use Rattle.std.proofs.Common.{◌≡◌, ◌<◌, ◌≤◌, ◌⊎◌, inl, inr, ◌+◌, ℕ, zero, suc, true, List, [], ◌∷◌, length, map, slice_index, get_or, sym, ap, subst, ◌∙◌, arith, eqb-true, eq-eqb}
+use Rattle.std.proofs.Common.{◌≡◌, ◌<◌, ◌≤◌, ◌⊎◌, inl, inr, ◌+◌, ℕ, zero, suc, List, [], length, map, slice_index, get_or, sym, ap, subst, ◌∙◌, arith, eqb-true, eq-eqb}
 use Rattle.std.specs.Prelude.{slice_get, Some, filter, All, Contains, ◌==◌, option_map}
 use Rattle.std.proofs.lemmas.Bool.{cases_eq}
 use Rattle.std.proofs.lemmas.Option.{slice_get-map, slice_get_within, slice_get-get_or, get_or_from_slice_get, same_Some}
@@ -55,7 +55,7 @@ module _ {K : ℕ} (k : Kept K) (image : List ℕ) (was : Shows k image) (shut :
   has_gates = record { first = first_has; second = second_has }
 
   -- behind the used slots each gate is 0
-  zero_behind : (h i : ℕ) → h < 2 → i < s.slots → used k h ≤ i → gate_in s h i image ≡ 0
+  pub zero_behind : (h i : ℕ) → h < 2 → i < s.slots → used k h ≤ i → gate_in s h i image ≡ 0
   zero_behind h i two lt le = elim (cases_eq h k.half) [
     | inl same ↦ elim (cases_eq i (used k k.half)) [
       | inl at ↦

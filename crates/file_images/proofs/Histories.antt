@@ -1,6 +1,6 @@
 -- What each step of the journal, and each root, leaves of where what is kept leads.
 use Rattle.std.proofs.Common.{◌≡◌, ◌≢◌, ◌<◌, ◌≤◌, ◌⊎◌, inl, inr, ◌+◌, ◌++◌, ℕ, Bool, true, false, List, [], ◌∷◌, length, refl, sym, ap, subst, ◌∙◌, arith, true≢false}
-use Rattle.std.specs.Prelude.{slice_get, Option, Some, fold, Contains}
+use Rattle.std.specs.Prelude.{slice_get, Some, fold, Contains}
 use Rattle.std.proofs.lemmas.Bool.{cases_eq}
 use Rattle.std.proofs.lemmas.List.{append-nil}
 use Rattle.std.proofs.lemmas.List.Sums.{fold-append}
@@ -11,9 +11,9 @@ use Rattle.grid_model.specs.Layouts.{Layout}
 use Rattle.grid_model.specs.Spellings.{LoggedBatch}
 use Rattle.grid_model.specs.Images.{logged_effect, layout_after}
 use Rattle.grid_model.specs.Roots.{WholeRoot}
-use Rattle.file_images.specs.Kept.{GateRule, Counting, Barred, PlacedBatch, NextSlot, Shut, Flying, InDoubt, Kept, OtherHeader, LooseHeader, MayBeNewest, on_half, used}
-use Rattle.file_images.specs.Steps.{ruled, with_placed, with_slot, with_barred, with_next_shut, with_flying}
-use Rattle.file_images.specs.Leads.{Meaning, behind, updates_in, RootHolds, CountsOn, reach, IsKnown, MayFollow, RootLeads, Leads}
+use Rattle.file_images.specs.Kept.{GateRule, Counting, Barred, PlacedBatch, NextSlot, Shut, Flying, InDoubt, Kept, OtherHeader, on_half, used}
+use Rattle.file_images.specs.Steps.{ruled, with_placed, with_next_shut, with_flying}
+use Rattle.file_images.specs.Leads.{Meaning, behind, updates_in, RootHolds, CountsOn, reach, IsKnown, MayFollow, RootLeads}
 use Rattle.file_images.proofs.Halves.{half_added, half_kept, get_added, get_left, get_last}
 use Rattle.file_images.proofs.Elements.{Among, here, there, among_left, among_right, from_append, among_these, contains_it}
 use Rattle.file_images.proofs.Chains.{chain_more}

@@ -1,23 +1,20 @@
 -- What roots and the journal's other steps leave of where what is kept leads.
-use Rattle.std.proofs.Common.{◌≡◌, ◌≢◌, ◌<◌, ◌≤◌, ◌⊎◌, inl, inr, ◌+◌, ◌++◌, ℕ, Bool, true, false, List, [], ◌∷◌, length, map, fold, refl, sym, ap, subst, ◌∙◌, arith, true≢false}
-use Rattle.std.specs.Prelude.{slice_get, Option, Some, None, Contains}
+use Rattle.std.proofs.Common.{◌≡◌, ◌≢◌, ◌<◌, ◌≤◌, inl, inr, ◌+◌, ◌++◌, ℕ, List, [], length, map, fold, refl, sym, ap, subst, ◌∙◌, arith}
+use Rattle.std.specs.Prelude.{slice_get, Some, None, Contains}
 use Rattle.std.proofs.lemmas.Bool.{cases_eq}
 use Rattle.std.proofs.lemmas.List.Sums.{fold-append}
 use Rattle.std.proofs.lemmas.Grind.{flat_map-append}
 use Rattle.std.proofs.lemmas.List.Elements.{Contains-append_right}
-use Rattle.grid_types.specs.declared.layout_change.LoggedUpdate.{LoggedUpdate}
-use Rattle.grid_model.specs.Tables.{Table}
-use Rattle.grid_model.specs.Layouts.{Layout}
 use Rattle.grid_model.specs.Spellings.{LoggedBatch}
 use Rattle.grid_model.specs.Images.{logged_effect, layout_after}
 use Rattle.grid_model.specs.Roots.{WholeRoot}
 use Rattle.grid_model.proofs.Boxes.{some-not-none, one-value}
 use Rattle.grid_model.proofs.Members.{contains-none}
-use Rattle.file_images.specs.Kept.{GateRule, Counting, Barred, PlacedBatch, NextSlot, Shut, Flying, InDoubt, Kept, OtherHeader, ShutHeader, LooseHeader, MayBeNewest, on_half, used}
-use Rattle.file_images.specs.Steps.{loosened, none_used, first_by, second_by, with_flying, with_doubt, with_closed, with_tried, with_root, with_loose, with_shut, with_turned, other_half}
-use Rattle.file_images.specs.Leads.{Meaning, Chain, updates_in, RootHolds, CountsOn, reach, IsKnown, MayFollow, RootLeads, Leads}
+use Rattle.file_images.specs.Kept.{Counting, PlacedBatch, NextSlot, Shut, Flying, InDoubt, Kept, ShutHeader, LooseHeader, MayBeNewest, on_half}
+use Rattle.file_images.specs.Steps.{loosened, none_used, first_by, second_by, with_doubt, with_closed, with_tried, with_root, with_loose, with_shut, with_turned, other_half}
+use Rattle.file_images.specs.Leads.{Meaning, updates_in, CountsOn, reach, IsKnown, MayFollow, RootLeads, Leads}
 use Rattle.file_images.specs.LeadingLaws.{IsAhead, BeginsSession, IsBehind, NoneBeyond, MayFollowEach}
-use Rattle.file_images.proofs.Elements.{Among, from_append, among_these, contains_it}
+use Rattle.file_images.proofs.Elements.{from_append, among_these, contains_it}
 use Rattle.file_images.proofs.Chains.{chain_up, chain_above, chain_below}
 use Rattle.file_images.proofs.Clearing.{by_here, by_other, from_loose}
 use Rattle.file_images.proofs.Histories.{holds_over, follows_over, leads_over, shut_no_doubt, reach_up}

@@ -1,6 +1,6 @@
 -- An image that shows what a file keeps has the meaning to which that leads, or the one behind the batch in doubt.
-use Rattle.std.proofs.Common.{◌≡◌, ◌≢◌, ◌<◌, ◌≤◌, inl, inr, ◌+◌, ℕ, List, [], ◌∷◌, length, map, get_or, cond, refl, sym, ap, subst, ◌∙◌, arith, lt-ltb}
-use Rattle.std.specs.Prelude.{slice_index, slice_get, Option, Some, None, All}
+use Rattle.std.proofs.Common.{◌≡◌, ◌≢◌, ◌<◌, ◌≤◌, inl, inr, ℕ, List, [], ◌∷◌, length, map, get_or, cond, refl, ap, subst, ◌∙◌, arith, lt-ltb}
+use Rattle.std.specs.Prelude.{slice_index, Option, Some, None}
 use Rattle.std.specs.Option.{option_map}
 use Rattle.std.specs.Ordering.{nat_cmp}
 use Rattle.std.specs.Cmp.{nat_cmp_total}
@@ -11,13 +11,13 @@ use Rattle.grid_model.specs.Tables.{Table}
 use Rattle.grid_model.specs.Cells.{parts}
 use Rattle.grid_model.specs.Layouts.{BucketBox, Layout, box, directory_part}
 use Rattle.grid_model.specs.Buckets.{SpellsBucket}
-use Rattle.grid_model.specs.Spellings.{LoggedBatch, BucketOf, bucket_spelling, directory_spelling}
+use Rattle.grid_model.specs.Spellings.{BucketOf, bucket_spelling, directory_spelling}
 use Rattle.grid_model.specs.Images.{bucket_on, HasBuckets, PagesSpell, entry_page, open_slots, written_slots, Found, IsFound, Reads, RootSpells, AreWritten}
 use Rattle.grid_model.specs.Roots.{WholeRoot, IsNewestWhole}
 use Rattle.grid_model.proofs.Ascending.{each-found}
 use Rattle.grid_model.proofs.Divided.{records-together, lawful-bucket}
 use Rattle.history_pages.specs.OwnerPages.{as_bucket, numbered_bucket, owner_page}
-use Rattle.file_images.specs.Kept.{Counting, Barred, NextSlot, Shut, Flying, InDoubt, Kept}
+use Rattle.file_images.specs.Kept.{Counting, Barred, NextSlot, Shut, Flying, Kept}
 use Rattle.file_images.specs.Shows.{Shows}
 use Rattle.file_images.specs.Steps.{with_slot, with_barred, with_next_shut}
 use Rattle.file_images.specs.Leads.{Meaning, HasMeaning, behind, RootHolds, reach, IsKnown, RootLeads, Leads, HasMeaningOrBehind}

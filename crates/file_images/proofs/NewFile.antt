@@ -1,5 +1,5 @@
 -- An image of a new file shows what a new file keeps, and has its meaning.
-use Rattle.std.proofs.Common.{◌≡◌, ◌≢◌, ◌<◌, ◌≤◌, ◌==◌, inl, inr, ◌+◌, ◌*◌, ◌-◌, ◌/◌, ℕ, zero, suc, Bool, true, false, cond, not, List, [], ◌∷◌, ◌++◌, length, map, filter, get_or, slice_index, replicate, All, IsTrue, refl, sym, ap, subst, ◌∙◌, arith}
+use Rattle.std.proofs.Common.{◌≡◌, ◌<◌, ◌≤◌, ◌==◌, inl, inr, ◌+◌, ◌*◌, ◌-◌, ◌/◌, ℕ, zero, suc, Bool, true, false, cond, not, List, [], ◌∷◌, ◌++◌, length, map, filter, slice_index, replicate, All, IsTrue, refl, sym, ap, subst, ◌∙◌, arith}
 use Rattle.std.specs.Prelude.{slice_get, Option, Some, None, nat_lt, take, drop}
 use Rattle.std.specs.Option.{option_map, option_map_or}
 use Rattle.std.specs.Ordering.{nat_cmp, eq_by_cmp}
@@ -15,12 +15,12 @@ use Rattle.grid_types.specs.declared.owner.Owner.TheVariants.{Bucket, Part}
 use Rattle.grid_types.specs.Pages.{page_of}
 use Rattle.grid_types.specs.Shapes.{is_shape, data_page}
 use Rattle.grid_types.proofs.Places.{within-limits}
-use Rattle.grid_model.specs.Lists.{below, AreDistinct, choices, product}
-use Rattle.grid_model.specs.Cells.{cells, parts, dims, all_cells, corner}
+use Rattle.grid_model.specs.Lists.{AreDistinct}
+use Rattle.grid_model.specs.Cells.{parts, all_cells, corner}
 use Rattle.grid_model.specs.Scales.{is_scale}
-use Rattle.grid_model.specs.Layouts.{BucketBox, Layout, whole, box, holder, number_at, new_layout, directory, directory_part}
+use Rattle.grid_model.specs.Layouts.{BucketBox, whole, holder, number_at, new_layout, directory, directory_part}
 use Rattle.grid_model.specs.Lawful.{IsRootOn, IsAreaOf, pages_named, nowhere, cells_of_counts}
-use Rattle.grid_model.specs.Spellings.{LoggedBatch, directory_spelling, bucket_spelling}
+use Rattle.grid_model.specs.Spellings.{directory_spelling, bucket_spelling}
 use Rattle.grid_model.specs.Images.{HasGatesOf, layout_after, numbers_of}
 use Rattle.grid_model.specs.Roots.{WholeRoot}
 use Rattle.grid_model.proofs.Boxes.{some-not-none, one-value}
@@ -29,9 +29,9 @@ use Rattle.grid_model.proofs.NewLayout.{new-stands, one_cell}
 use Rattle.grid_model.proofs.Found.{one-number}
 use Rattle.history_pages.specs.OwnerPages.{as_bucket, owner_page, numbered_bucket}
 use Rattle.journal_slots.proofs.Frames.{gate_is_byte}
-use Rattle.file_images.specs.Kept.{PlacedBatch, Shut, Flying, InDoubt, Kept, on_half, used}
-use Rattle.file_images.specs.Shows.{gate_in, ShowsPlaced, Shows}
-use Rattle.file_images.specs.Leads.{HasMeaning, Leads, RootHolds, RootLeads, CountsOn, IsKnown, page_named}
+use Rattle.file_images.specs.Kept.{PlacedBatch, on_half}
+use Rattle.file_images.specs.Shows.{gate_in, Shows}
+use Rattle.file_images.specs.Leads.{HasMeaning, Leads, RootHolds, RootLeads, page_named}
 use Rattle.file_images.specs.NewFiles.{new_fields, new_area, new_root, new_directory, new_bucket, IsNewFile, new_kept, new_meaning}
 use Rattle.file_images.proofs.PagesApart.{few}
 use Rattle.file_images.proofs.Elements.{Among, here, there, from_range}

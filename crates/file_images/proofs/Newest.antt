@@ -1,8 +1,7 @@
 -- Which root is the newest in an image that shows what a file keeps.
-use Rattle.std.proofs.Common.{◌≡◌, ◌⊎◌, inl, inr, ◌+◌, ℕ, List, IsTrue, refl, sym, arith}
+use Rattle.std.proofs.Common.{◌≡◌, ◌⊎◌, inl, inr, ◌+◌, ℕ, List, refl, arith}
 use Rattle.std.specs.Prelude.{Option, Some, None}
 use Rattle.grid_types.specs.declared.shape.Shape.{Shape}
-use Rattle.grid_types.specs.Shapes.{is_shape}
 use Rattle.grid_model.specs.Roots.{WholeRoot, IsNewestWhole, ShowsOldOrTried, ComesNext}
 use Rattle.file_roots.proofs.Exchange.{old_or_tried_is_newest, ready_is_replaceable}
 use Rattle.file_images.specs.Kept.{OtherHeader, ShutHeader, LooseHeader, IsTried}

@@ -1,5 +1,5 @@
 -- Where the pages of a file lie to each other, and where its gates stand.
-use Rattle.std.proofs.Common.{◌≡◌, ◌≢◌, ◌<◌, ◌≤◌, ◌⊎◌, inl, inr, ◌+◌, ◌*◌, ℕ, List, slice_index, IsTrue, sym, ap, arith}
+use Rattle.std.proofs.Common.{◌≢◌, ◌<◌, ◌≤◌, ◌⊎◌, inl, inr, ℕ, IsTrue, arith}
 use Rattle.grid_types.specs.declared.shape.Shape.{Shape}
 use Rattle.grid_types.specs.Ranges.{slot_ranges}
 use Rattle.grid_types.specs.Shapes.{is_shape, area_pages, table_page, slot_page, data_page, slot_gate_at}

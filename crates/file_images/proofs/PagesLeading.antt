@@ -1,6 +1,6 @@
 -- What data pages that are written, settled or let go leave of where what is kept leads.
-use Rattle.std.proofs.Common.{◌≡◌, ◌≢◌, ◌<◌, ◌++◌, inl, inr, ℕ, true, List, [], ◌∷◌, length, map, fold, slice_index, IsTrue, refl, sym, ap, subst, ◌∙◌, arith, ltb-true}
-use Rattle.std.specs.Prelude.{slice_get, slice_set, slice_index_or, Option, Some, None, Contains, IsSome, nat_lt}
+use Rattle.std.proofs.Common.{◌≡◌, ◌<◌, ◌++◌, inl, inr, ℕ, List, [], ◌∷◌, fold, slice_index, refl, sym, ap, subst, ◌∙◌, arith, ltb-true}
+use Rattle.std.specs.Prelude.{slice_get, slice_set, slice_index_or, Option, Some, None, Contains, IsSome}
 use Rattle.std.specs.Option.{is_some}
 use Rattle.std.proofs.lemmas.Bool.{cases_eq}
 use Rattle.std.proofs.lemmas.List.Elements.{Contains-append_left, Contains-append_right}
@@ -20,8 +20,8 @@ use Rattle.history_pages.specs.OwnerPages.{owner_page}
 use Rattle.history_pages.proofs.Named.{bucket-named, part-named}
 use Rattle.file_images.specs.Kept.{MayBeNewest, Kept}
 use Rattle.file_images.specs.Meets.{AreFewer, Covers}
-use Rattle.file_images.specs.Steps.{with_page, without_page, settle_page, with_settled, ask_nothing, without_pages}
-use Rattle.file_images.specs.Leads.{Meaning, page_named, RootHolds, RootLeads, Leads}
+use Rattle.file_images.specs.Steps.{settle_page, with_settled, ask_nothing, without_pages}
+use Rattle.file_images.specs.Leads.{Meaning, page_named, RootHolds, Leads}
 use Rattle.file_images.specs.LeadingLaws.{NamesNone}
 use Rattle.file_images.proofs.Named.{entry-there, named-by-number}
 use Rattle.file_images.proofs.Settling.{set_other, set_same}

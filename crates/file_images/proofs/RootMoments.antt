@@ -1,5 +1,5 @@
 -- What an image shows at each moment of a root step.
-use Rattle.std.proofs.Common.{◌≡◌, ◌≢◌, inl, inr, ◌+◌, ℕ, List, IsTrue, refl, sym, ap, subst, ◌∙◌}
+use Rattle.std.proofs.Common.{◌≡◌, ◌≢◌, inr, ◌+◌, ℕ, List, sym, subst}
 use Rattle.std.specs.Prelude.{Option, Some, None}
 use Rattle.grid_types.specs.Shapes.{header_page}
 use Rattle.grid_model.specs.Images.{header_gate}

@@ -15,7 +15,7 @@ use Rattle.file_roots.specs.Writing.{HasNewFields, IsHeaderWritten}
 use Rattle.file_images.specs.Kept.{OtherHeader, ShutHeader, LooseHeader, Shut, Flying, InDoubt, Kept, used, next_number}
 use Rattle.file_images.specs.Shows.{ShowsRoots, gate_in, Shows}
 use Rattle.file_images.specs.Apart.{IsFreePage}
-use Rattle.file_images.specs.Steps.{with_doubt, with_slot, with_barred, with_next_shut, with_loose, with_shut, with_closed, with_tried, with_root}
+use Rattle.file_images.specs.Steps.{with_doubt, with_slot, with_barred, with_next_shut, with_loose, with_shut, with_closed, with_tried, with_root, with_turned}
 use Rattle.file_images.specs.Meets.{IsLooseUnder}
 use Rattle.file_images.specs.Leads.{Meaning, behind, Leads, HasMeaningOrBehind}
 
@@ -42,6 +42,10 @@ pub record CommittingShows (K : ℕ) : Type 0 where
 pub record ClearingShows (K : ℕ) : Type 0 where
   pub during : (k : Kept K) (h : ℕ) (c d : List ℕ) → Shows k c → h < 2 → h ≢ k.half → Agrees (slot_gate_at k.shape h 0) (used k h) c d → Shows (with_loose k h) d
   pub after : (k : Kept K) (h : ℕ) (c d : List ℕ) → Shows k c → h < 2 → h ≢ k.half → Agrees (slot_gate_at k.shape h 0) (used k h) c d → ((i : ℕ) → i < used k h → gate_in k.shape h i d ≡ 0) → Shows (with_shut k h) d
+
+-- where nothing is on the next slot, the halves' roles may be exchanged
+abbrev pub TurningShows : ℕ → Type 0
+TurningShows K = (k : Kept K) (image : List ℕ) → k.next ≡ Shut → Shows k image → Shows (with_turned k) image
 
 -- a new root is the next one, with lawful fields, and its table area is whole
 pub record IsNextWhole {K : ℕ} (k : Kept K) (new : WholeRoot) (image : List ℕ) : Type 0 where

@@ -1,11 +1,11 @@
 -- What each step leaves of the meaning to which what is kept leads.
-use Rattle.std.specs.Prelude.{◌≡◌, ◌⊎◌, ◌<◌, ◌≤◌, ◌+◌, ℕ, List, [], ◌∷◌, ◌++◌, fold, slice_get, Some, Contains}
+use Rattle.std.specs.Prelude.{◌≡◌, ◌⊎◌, ◌<◌, ◌≤◌, ℕ, List, ◌++◌, fold, slice_get, Some, Contains}
 use Rattle.grid_model.specs.Lawful.{pages_named}
 use Rattle.grid_model.specs.Lone.{opened}
 use Rattle.grid_model.specs.Spellings.{LoggedBatch}
 use Rattle.grid_model.specs.Images.{logged_effect, layout_after, MayRedoAll}
 use Rattle.grid_model.specs.Roots.{WholeRoot}
-use Rattle.file_images.specs.Kept.{Barred, PlacedBatch, NextSlot, Shut, InDoubt, MayBeNewest, Kept, on_half}
+use Rattle.file_images.specs.Kept.{Barred, PlacedBatch, Shut, InDoubt, MayBeNewest, Kept, on_half}
 use Rattle.file_images.specs.Meets.{Covers}
 use Rattle.file_images.specs.Steps.{with_page, without_page, with_settled, without_pages, with_flying, with_doubt, with_closed, with_tried, with_root, with_loose, with_shut, with_turned}
 use Rattle.file_images.specs.Leads.{Meaning, Chain, updates_in, RootHolds, MayFollow, RootLeads, Leads}

@@ -1,6 +1,5 @@
 -- A disk that meets what a file keeps: as it reads, and in each image that a crash now may leave. And less that may be asked of it.
 use Rattle.std.specs.Prelude.{◌≡◌, ◌⊎◌, ◌≤◌, ◌*◌, ℕ, List, slice_get, Option, Some, ⊤, IsTrue}
-use Rattle.grid_types.specs.declared.shape.Shape.{Shape}
 use Rattle.grid_types.specs.declared.sizes.TheConstants.{PAGE_BYTES}
 use Rattle.grid_types.specs.Shapes.{file_pages, header_page}
 use Rattle.disk_trait.specs.declared.disk.Disk.{Ghosts}

@@ -3,7 +3,7 @@ use Rattle.std.specs.Prelude.{◌≡◌, ℕ, zero, suc, List, [], ◌∷◌, �
 use Rattle.grid_types.specs.declared.shape.Shape.{Shape}
 use Rattle.grid_model.specs.Spellings.{LoggedBatch}
 use Rattle.grid_model.specs.Roots.{WholeRoot}
-use Rattle.file_images.specs.Kept.{GateRule, Counting, Barred, Either, PlacedBatch, ShutHeader, LooseHeader, NextSlot, Shut, Flying, InDoubt, Kept, used}
+use Rattle.file_images.specs.Kept.{GateRule, Counting, Barred, Either, PlacedBatch, ShutHeader, LooseHeader, Shut, Flying, InDoubt, Kept, used}
 
 -- a data page was written, and reads as these bytes
 abbrev pub with_page : {K : ℕ} → Kept K → ℕ → List ℕ → Kept K

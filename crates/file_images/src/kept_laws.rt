@@ -1,5 +1,5 @@
 //! The laws of what a file keeps, as contracts of functions without code.
-ghost use Rattle.file_images.specs.KeptLaws.{WritesApartLeave, ShownMeans, DoubtLeadsOn, CommittingShows, ClearingShows, RootStepsShow, RootMomentsShow};
+ghost use Rattle.file_images.specs.KeptLaws.{WritesApartLeave, ShownMeans, DoubtLeadsOn, CommittingShows, ClearingShows, TurningShows, RootStepsShow, RootMomentsShow};
 ghost use Rattle.file_images.specs.NewFiles.{NewFilesMean};
 
 /// The law of pages apart: a write on a page of which nothing is kept leaves what an image shows.
@@ -23,9 +23,10 @@ pub fn commit_law<const K: usize>()
     ensures { CommittingShows K }
 {}
 
-/// The law of clearing: gates that are closed may be anything until they are 0.
-pub fn clearing_law<const K: usize>()
-    ensures { ClearingShows K }
+/// The laws of halves: gates that are closed may be anything until they are 0; and the halves' roles may be exchanged.
+pub fn half_law<const K: usize>()
+    ensures cleared { ClearingShows K }
+    ensures turned { TurningShows K }
 {}
 
 /// The laws of root steps: they change what is shown of the roots alone; and what is shown at each of their moments.

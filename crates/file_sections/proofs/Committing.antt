@@ -1,10 +1,9 @@
 -- What the publication of a batch, and the clearing of a half, leave of what a file keeps.
-use Rattle.std.proofs.Common.{◌≡◌, ◌≢◌, ◌<◌, ◌≤◌, ◌⊎◌, inl, inr, ◌+◌, ◌*◌, ℕ, List, length, take, drop, get_or, slice_index, replicate, IsTrue, sym, ap, subst, ◌∙◌, arith}
+use Rattle.std.proofs.Common.{◌≡◌, ◌<◌, ◌≤◌, ◌⊎◌, inl, inr, ◌+◌, ℕ, List, length, take, drop, get_or, slice_index, replicate, IsTrue, sym, ap, subst, ◌∙◌, arith}
 use Rattle.std.specs.Prelude.{Result, Ok, Err, OnOk}
 use Rattle.std.proofs.lemmas.List.{length-replicate, get_or-replicate, get_or-take, get_or-drop}
 use Rattle.grid_types.specs.declared.shape.Shape.{Shape}
-use Rattle.grid_types.specs.Shapes.{file_pages, header_page, slot_gate_at}
-use Rattle.grid_types.specs.Shapes as places
+use Rattle.grid_types.specs.Shapes.{header_page, slot_gate_at}
 use Rattle.grid_types.proofs.Places.{gate-page-lies}
 use Rattle.disk_trait.specs.declared.disk.Disk.{Ghosts}
 use Rattle.disk_trait.specs.Calls.{Changes, IsSynced}
@@ -19,8 +18,6 @@ use Rattle.file_images.specs.Kept.{Kept, used, next_number}
 use Rattle.file_images.specs.Shows.{gate_in, Shows}
 use Rattle.file_images.specs.Meets.{IsLooseUnder, Meets}
 use Rattle.file_images.specs.Steps.{IsNextSlot, with_doubt, with_slot, with_loose, with_shut}
-use Rattle.file_images.proofs.PagesApart.{few}
-use Rattle.file_images.proofs.Frames.{used_few}
 use Rattle.file_images.proofs.Committing.{loose_same, header_gate_same, holds_same, committed_shows, next_inside, next_step_shows, next_outside, next_committed}
 use Rattle.file_images.proofs.Clearing.{clearing_shows, cleared_shows, loose_in_clearing, header_in_clearing, holds_in_clearing}
 use Rattle.file_sections.specs.Sections.{StaysShown, IsIdleHalf}

@@ -1,7 +1,6 @@
 -- What the write of a data page leaves of what a file keeps.
-use Rattle.std.proofs.Common.{◌≡◌, ◌≢◌, ◌≤◌, inr, ◌+◌, ◌*◌, ℕ, List, slice_index, IsTrue, sym, ap, ◌∙◌, arith}
+use Rattle.std.proofs.Common.{◌≡◌, ◌≢◌, inr, ◌*◌, ℕ, List, slice_index, IsTrue, sym, ap, ◌∙◌, arith}
 use Rattle.std.specs.Prelude.{slice_get, slice_set, Option, Some}
-use Rattle.grid_types.specs.declared.shape.Shape.{Shape}
 use Rattle.grid_types.specs.Pages.{page_of}
 use Rattle.grid_types.specs.Shapes.{header_page, data_page}
 use Rattle.disk_trait.specs.declared.disk.Disk.{Ghosts}

@@ -1,10 +1,9 @@
 -- What a call that changes images by one step leaves of a disk that meets what a file keeps.
-use Rattle.std.proofs.Common.{◌≡◌, ◌≤◌, ◌*◌, ℕ, List, slice_index, IsTrue, sym, ap, subst, ◌∙◌, arith}
-use Rattle.std.specs.Prelude.{Option, Result, Ok, Err, OnOk, OnErr}
-use Rattle.grid_types.specs.Pages.{page_of}
-use Rattle.grid_types.specs.Shapes.{file_pages, header_page}
+use Rattle.std.proofs.Common.{◌≡◌, ℕ, List, IsTrue, sym, ap, subst, ◌∙◌, arith}
+use Rattle.std.specs.Prelude.{Result, Ok, Err, OnOk, OnErr}
+use Rattle.grid_types.specs.Shapes.{header_page}
 use Rattle.disk_trait.specs.declared.disk.Disk.{Ghosts}
-use Rattle.disk_trait.specs.Calls.{Changes, IsSynced}
+use Rattle.disk_trait.specs.Calls.{Changes}
 use Rattle.disk_trait.specs.Disk.{Stays}
 use Rattle.disk_trait.specs.Moments.{Always}
 use Rattle.disk_trait.proofs.Moments.{weakened}

@@ -1,31 +1,26 @@
 -- What each step of a root step leaves of what a file keeps.
-use Rattle.std.proofs.Common.{◌≡◌, ◌≢◌, ◌<◌, ◌≤◌, ◌⊎◌, inl, inr, ◌+◌, ◌*◌, ℕ, List, IsTrue, sym, ap, subst, ◌∙◌, arith}
-use Rattle.std.specs.Prelude.{Option, Some, None, Result, OnOk, OnErr}
+use Rattle.std.proofs.Common.{◌≡◌, ◌<◌, inl, inr, ◌+◌, ◌*◌, ℕ, List, IsTrue, ap, subst, ◌∙◌, arith}
+use Rattle.std.specs.Prelude.{Option, Some}
 use Rattle.grid_types.specs.declared.shape.Shape.{Shape}
 use Rattle.grid_types.specs.Ranges.{own_page, area_at, area_bytes}
-use Rattle.grid_types.specs.Shapes.{is_shape, area_pages, header_page, table_page}
+use Rattle.grid_types.specs.Shapes.{area_pages, header_page, table_page}
 use Rattle.grid_types.proofs.Places.{table-page, one-of-two}
 use Rattle.disk_trait.specs.declared.disk.Disk.{Ghosts}
-use Rattle.disk_trait.specs.Calls.{Changes, IsSynced}
-use Rattle.disk_trait.specs.Disk.{Stays}
+use Rattle.disk_trait.specs.Calls.{Changes}
 use Rattle.disk_trait.specs.Moments.{LeavesOnly}
 use Rattle.disk_trait.proofs.Moments.{both}
 use Rattle.disk_trait.proofs.Pages.{agrees_wider}
-use Rattle.grid_model.specs.Images.{header_gate}
-use Rattle.grid_model.specs.Roots.{WholeRoot, AreRootFields, IsNewestWhole, HasAreaOf, IsReady, IsReplaceable, HasOlderOrTried}
-use Rattle.file_roots.specs.Places.{GateAlone, AreaPageAlone, AreaAlone, HeaderAlone, RootAlone}
-use Rattle.file_roots.specs.Writing.{MayBeWritten, Awaits, AwaitsHeader, StaysReplaceable, StaysReady}
+use Rattle.grid_model.specs.Roots.{WholeRoot}
+use Rattle.file_roots.specs.Places.{AreaPageAlone, AreaAlone, RootAlone}
+use Rattle.file_roots.specs.Writing.{MayBeWritten, Awaits}
 use Rattle.file_roots.proofs.Headers.{header_two}
-use Rattle.file_roots.proofs.Alone.{gate_in_root, header_in_root, area_in_root}
-use Rattle.file_roots.proofs.Sections.{may_be_next}
 use Rattle.file_images.specs.Kept.{OtherHeader, ShutHeader, LooseHeader, Kept, next_number}
-use Rattle.file_images.specs.Shows.{ShowsRoots, HoldsPages, Shows}
+use Rattle.file_images.specs.Shows.{ShowsRoots, Shows}
 use Rattle.file_images.specs.Meets.{IsLooseUnder, MayBeClosed, Meets}
-use Rattle.file_images.specs.Steps.{with_closed, with_tried, with_root}
 use Rattle.file_images.proofs.Newest.{comes_next}
 use Rattle.file_images.proofs.RootSteps.{holds_in_root_step, root_step_shows}
 use Rattle.file_sections.specs.Sections.{StaysShown}
-use Rattle.file_sections.proofs.Meeting.{told, stays_shown, meets_still}
+use Rattle.file_sections.proofs.Meeting.{told}
 
 -- a page of a table area in the area
 pub page_in_area : (s : Shape) (number i : ℕ) (c d : List ℕ) → i < area_pages s → AreaPageAlone s number i c d → AreaAlone s number c d

@@ -1,4 +1,4 @@
-use Rattle.std.proofs.Common.{◌≡◌, ◌∙◌, ◌*◌, ℕ, List, length, sym, ap, subst, arith}
+use Rattle.std.proofs.Common.{◌≡◌, ◌∙◌, ◌*◌, ℕ, sym, ap, subst, arith}
 use Rattle.std.specs.Prelude.{Some, None}
 use Rattle.grid_types.specs.declared.shape.Shape.{Shape}
 use Rattle.grid_types.specs.Pages.{page_of}
@@ -6,8 +6,6 @@ use Rattle.grid_types.specs.Shapes.{data_page}
 use Rattle.disk_trait.specs.Calls.{Changes}
 use Rattle.disk_trait.specs.Disk.{Agrees}
 use Rattle.grid_model.proofs.Boxes.{one-value, some-not-none}
-use Rattle.file_images.specs.Kept.{Kept}
-use Rattle.file_sections.specs.Sections.{IsUnkept}
 use Rattle.file_sections.proofs.Meeting.{on_ok_told, on_any_err}
 use Rattle.file_sections.proofs.DataPages.{data_shown, data_meets}
 use Rattle.file_sections.proofs.data_pages.write_data_page.Goals as goal
