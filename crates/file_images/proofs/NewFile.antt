@@ -49,7 +49,7 @@ none_named zero = refl
 none_named (suc n) = none_named n
 
 -- an element that stands in a list of one element is that one
-get_replicate : {X : Type 0} (n : ℕ) (x y : X) (i : ℕ) → slice_get (replicate n x) i ≡ Some y → y ≡ x
+pub get_replicate : {X : Type 0} (n : ℕ) (x y : X) (i : ℕ) → slice_get (replicate n x) i ≡ Some y → y ≡ x
 get_replicate zero x y i is = absurd (some-not-none y (sym is))
 get_replicate (suc n) x y zero is = sym (same_Some x y is)
 get_replicate (suc n) x y (suc i) is = get_replicate n x y i is

@@ -1,5 +1,8 @@
 -- What is promised of a disk that meets what a file keeps.
-use Rattle.std.specs.Prelude.{◌≡◌, ◌≢◌, ℕ, List, IsTrue}
+use Rattle.std.specs.Prelude.{◌≡◌, ◌≢◌, ◌≤◌, ◌*◌, ℕ, List, IsTrue}
+use Rattle.grid_types.specs.declared.shape.Shape.{Shape}
+use Rattle.grid_types.specs.declared.sizes.TheConstants.{PAGE_BYTES}
+use Rattle.grid_types.specs.Shapes.{file_pages}
 use Rattle.disk_trait.specs.declared.disk.Disk.{Ghosts}
 use Rattle.disk_trait.specs.Calls.{IsSynced}
 use Rattle.disk_trait.specs.Moments.{Always}
@@ -7,7 +10,8 @@ use Rattle.file_images.specs.Kept.{Shut, Flying, Kept}
 use Rattle.file_images.specs.Shows.{HoldsPages, Shows}
 use Rattle.file_images.specs.Meets.{Meets, Covers}
 use Rattle.file_images.specs.Steps.{with_settled, with_turned}
-use Rattle.file_images.specs.Leads.{Meaning, Leads, HasMeaningOrBehind}
+use Rattle.file_images.specs.Leads.{Meaning, HasMeaning, Leads, HasMeaningOrBehind}
+use Rattle.file_images.specs.NewFiles.{IsNewFile, new_kept, new_meaning}
 
 -- what covers goes on covering: it covers itself, and what is covered by what it covers; and an image that shows it shows what is covered
 pub record CoversLess (K : ℕ) : Type 0 where
@@ -22,3 +26,8 @@ pub record MeetingMeans (K : ℕ) {D : Type 0} (g : Ghosts D) : Type 0 where
   pub settled : (k : Kept K) (pages : List ℕ) (d : D) → IsSynced g d → Meets g k d → Meets g (with_settled k pages) d
   pub turned : (k : Kept K) (d : D) → k.next ≡ Shut → Meets g k d → Meets g (with_turned k) d
   pub means : (k : Kept K) (m : Meaning K) (d : D) → IsTrue (g.honest d) → k.next ≢ Flying → Leads k m → Meets g k d → Always (g.may_leave d) (λ image. HasMeaningOrBehind k image m)
+
+-- a disk whose bytes are those of a new file, all of them on it, meets what a new file keeps; and each image that a crash may leave of it has the meaning of a new file
+pub record NewFilesMeet (K : ℕ) {D : Type 0} (g : Ghosts D) : Type 0 where
+  pub meets : (s : Shape) (d : D) → file_pages s * PAGE_BYTES ≤ g.extent d → IsSynced g d → (IsTrue (g.honest d) → IsNewFile K s (g.seen d)) → Meets g (new_kept K s) d
+  pub means : (s : Shape) (d : D) → IsTrue (g.honest d) → IsSynced g d → IsNewFile K s (g.seen d) → Always (g.may_leave d) (λ image. HasMeaning image (new_meaning K))

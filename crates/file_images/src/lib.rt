@@ -11,4 +11,4 @@ pub use kept_laws::{
 };
 pub use laws::{damage_law, free_page_law, image_law};
 pub use leading_laws::{leading_journal_law, leading_page_law, leading_root_law};
-pub use meeting_laws::{covering_law, meeting_law};
+pub use meeting_laws::{covering_law, meeting_law, new_disk_law};

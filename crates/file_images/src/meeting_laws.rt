@@ -1,5 +1,5 @@
 //! The laws of a disk that meets what a file keeps, as contracts of functions without code.
-ghost use Rattle.file_images.specs.MeetingLaws.{CoversLess, MeetingMeans};
+ghost use Rattle.file_images.specs.MeetingLaws.{CoversLess, MeetingMeans, NewFilesMeet};
 
 use disk_trait::Disk;
 
@@ -12,4 +12,10 @@ pub fn covering_law<const K: usize>()
 /// it has the meaning of what is kept.
 pub fn meeting_law<const K: usize, D: Disk>()
     ensures { MeetingMeans K D.Disk }
+{}
+
+/// The law of new disks: a disk on which a new file is meets what a new file keeps, and a crash leaves of it what that
+/// means.
+pub fn new_disk_law<const K: usize, D: Disk>()
+    ensures { NewFilesMeet K D.Disk }
 {}
