@@ -1,0 +1,76 @@
+-- Batches that are taken out of a list, one after the other.
+use Rattle.std.proofs.Common.{◌≡◌, ◌≢◌, inl, inr, ◌<◌, ◌≤◌, ◌+◌, ◌==◌, ℕ, zero, suc, Bool, true, false, List, [], ◌∷◌, ◌++◌, length, get_or, set, cond, Option, Some, None, refl, sym, ap, subst, ◌∙◌, arith, append_assoc, eq-eqb}
+use Rattle.std.specs.List as lists
+use Rattle.std.proofs.lemmas.Bool.{cases_eq, ne_eqb}
+use Rattle.std.proofs.lemmas.List.{append-nil, length-set, get_or-set_other, get_or-set_same}
+use Rattle.grid_model.specs.Spellings.{LoggedBatch}
+use Rattle.grid_model.specs.Lawful.{IsBatch}
+use Rattle.grid_model.specs.Images.{joining, Join}
+use Rattle.recovery.specs.Joins.{blank, AreLawfulOrBlank, LeadsOn, IsFirstOn, NoneLeadsOn, IsTaking}
+
+module _ {X : Type 0} (p : X → Bool) (d : X) where
+  -- where no item passes a test, none is found
+  find_none : (xs : List X) → ((i : ℕ) → i < length xs → p (get_or xs i d) ≡ false) → lists.find p xs ≡ None
+  find_none [] miss = refl
+  find_none (x ∷ xs) miss = rw (miss 0 (omega arith)) (find_none xs (λ i lt. miss (suc i) (omega (arith, lt))))
+
+  -- the first item that passes is found
+  find_first : (xs : List X) (i : ℕ) → i < length xs → p (get_or xs i d) ≡ true → ((j : ℕ) → j < i → p (get_or xs j d) ≡ false) → lists.find p xs ≡ Some (get_or xs i d)
+  find_first [] i lt hit before = absurd (omega (arith, lt))
+  find_first (x ∷ xs) zero lt hit before = rw hit refl
+  find_first (x ∷ xs) (suc i) lt hit before = rw (before 0 (omega arith)) (find_first xs i (omega (arith, lt)) hit (λ j less. before (suc j) (omega (arith, less))))
+
+  -- an item that does not pass may be another one that does not
+  find_set : (xs : List X) (i : ℕ) (y : X) → i < length xs → p (get_or xs i d) ≡ false → p y ≡ false → lists.find p (set xs i y) ≡ lists.find p xs
+  find_set [] i y lt miss new = absurd (omega (arith, lt))
+  find_set (x ∷ xs) zero y lt miss new = rw (miss, new) refl
+  find_set (x ∷ xs) (suc i) y lt miss new = ap (λ r. cond (p x) (Some x) r) (find_set xs i y (omega (arith, lt)) miss new)
+
+module _ {K : ℕ} where
+  -- a lawful batch that begins with the next place leads on
+  lawful_leads : (place : ℕ) (b : LoggedBatch K) → IsBatch b → b.first ≡ place + 1 → LeadsOn place b
+  lawful_leads place b lawful first = record { first = first; some = lawful.some; small = omega (arith, first, lawful.few, lawful.last) }
+
+  -- in a list a batch that does not lead on does not begin with the next place
+  not_next : (left : List (LoggedBatch K)) (place j : ℕ) → AreLawfulOrBlank left → j < length left → (LeadsOn place (get_or left j blank) → ⊥) → ((get_or left j blank).first == place + 1) ≡ false
+  not_next left place j lawful lt none = ne_eqb (get_or left j blank).first (place + 1)
+      (λ e. none (lawful_leads place (get_or left j blank) (lawful j lt (λ zero. absurd (omega (arith, e, zero)))) e))
+
+  -- nothing was taken yet
+  pub taking_begins : (all : List (LoggedBatch K)) (front : ℕ) → AreLawfulOrBlank all → IsTaking all front [] all front
+  taking_begins all front lawful = record { joined = λ more n join. join; same = λ q le. refl; lawful = lawful }
+
+  -- a batch more is taken
+  one_more : (all taken left : List (LoggedBatch K)) (front place i : ℕ) (b : LoggedBatch K) → IsTaking all front taken left place → IsFirstOn left place i → b ≡ get_or left i blank
+      → IsTaking all front (taken ++ b ∷ []) (set left i blank) (place + length b.updates)
+  one_more all taken left front place i b had first is =
+      let some : 1 ≤ length b.updates = subst (λ (c : LoggedBatch K). 1 ≤ length c.updates) (sym is) first.leads.some in
+      let found : joining left place ≡ Some (get_or left i blank) = find_first (λ c. c.first == place + 1) blank left i first.inside (eq-eqb (get_or left i blank).first (place + 1) first.leads.first)
+      (λ j lt. not_next left place j had.lawful (omega (arith, lt, first.inside)) (first.before j lt)) in
+      record {
+        joined = λ more n join. subst (λ bs. Join all front bs n) (sym (append_assoc taken (b ∷ []) more)) (had.joined (b ∷ more) n (had.same place (omega arith) ∙ found ∙ ap Some (sym is), join));
+        same = λ q le. had.same q (omega (arith, le))
+            ∙ sym (find_set (λ c. c.first == q + 1) blank left i blank first.inside (ne_eqb (get_or left i blank).first (q + 1) (λ e. absurd (omega (arith, e, first.leads.first, le, some)))) (ne_eqb 0 (q + 1) (λ e. absurd (omega (arith, e)))));
+        lawful = λ j lt ne. elim (cases_eq j i) [
+          | inl at ↦
+              let gone : get_or (set left i blank) j blank ≡ blank = ap (λ k. get_or (set left i blank) k blank) at ∙ get_or-set_same left i blank blank first.inside in
+              absurd (ne (ap (λ (c : LoggedBatch K). c.first) gone))
+          | inr other ↦
+              let same : get_or (set left i blank) j blank ≡ get_or left j blank = get_or-set_other left i j blank blank other in
+              let inside : j < length left = omega (arith, lt, length-set left i blank) in
+              subst IsBatch (sym same) (had.lawful j inside (λ zero. ne (ap (λ (c : LoggedBatch K). c.first) same ∙ zero)))
+        ];
+      }
+
+  -- and the lists after that
+  pub taking_more : (all taken left more fewer : List (LoggedBatch K)) (front place next i : ℕ) (b : LoggedBatch K) → IsTaking all front taken left place → IsFirstOn left place i → b ≡ get_or left i blank
+      → more ≡ taken ++ b ∷ [] → fewer ≡ set left i blank → next ≡ place + length b.updates → IsTaking all front more fewer next
+  taking_more all taken left more fewer front place next i b had first is added gone reached =
+      subst (λ t. IsTaking all front t fewer next) (sym added) (subst (λ l. IsTaking all front (taken ++ b ∷ []) l next) (sym gone)
+      (subst (λ p. IsTaking all front (taken ++ b ∷ []) (set left i blank) p) (sym reached) (one_more all taken left front place i b had first is)))
+
+  -- all batches that join were taken
+  pub taking_ends : (all taken left : List (LoggedBatch K)) (front place : ℕ) → IsTaking all front taken left place → NoneLeadsOn left place → Join all front taken place
+  taking_ends all taken left front place had none =
+      let nothing : joining left place ≡ None = find_none (λ c. c.first == place + 1) blank left (λ i lt. not_next left place i had.lawful lt (none i lt)) in
+      subst (λ bs. Join all front bs place) (append-nil taken) (had.joined [] place (refl, had.same place (omega arith) ∙ nothing))

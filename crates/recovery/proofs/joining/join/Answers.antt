@@ -1,0 +1,32 @@
+use Rattle.std.proofs.Common.{map, length, sym, subst, ap, ◌+◌, ◌∙◌, arith, ◌∷◌, []}
+use Rattle.std.proofs.lemmas.List.{map-append}
+use Rattle.grid_model.specs.Spellings as model
+use Rattle.grid_model.specs.Images.{Join}
+use Rattle.journal_slots.specs.Batches.{batch_of}
+use Rattle.recovery.specs.Joins.{AreLawfulOrBlank, IsFirstOn, NoneLeadsOn}
+use Rattle.recovery.proofs.Taking.{taking_more, taking_ends}
+use Rattle.recovery.proofs.joining.join.Goals as goal
+
+pub loop-i-preserved : goal.loop-i-preserved
+loop-i-preserved g c =
+    let out = c.take_out-batch.ensures in
+    let count = c.len.ensures.value in
+    let place = c.loop-i.place in
+    let taken = c.loop-i.taken.items in
+    let b = c.take_out-batch.result in
+    let first = subst (λ xs. IsFirstOn (map batch_of xs) place c.in-Some.i) c.deref.ensures.value c.in-Some.ensures.found in
+    record {
+      small = omega (arith, first.leads.small, ap (λ (x : model.LoggedBatch g.row.K). length x.updates) out.taken, count);
+      taking = λ lawful. taking_more (map batch_of c.into_list-left.result.items) (map batch_of taken) (map batch_of c.loop-i.left.items) (map batch_of c.push.new.self.items) (map batch_of c.take_out-batch.new.batches.items)
+          c.args.front place (place + c.len.result) c.in-Some.i (batch_of b) (c.loop-i.invariant.taking lawful) first out.taken
+          (ap (map batch_of) c.in_ok-push.ensures.items ∙ map-append batch_of taken (b ∷ [])) out.left (ap (λ n. place + n) count);
+    }
+
+pub returns-clause-joined : goal.returns-clause-joined
+returns-clause-joined g c = λ lawful.
+    let all = map batch_of c.into_list-left.result.items in
+    let place = c.loop-i.place in
+    let none = subst (λ xs. NoneLeadsOn (map batch_of xs) place) c.deref.ensures.value c.in_default.ensures.none in
+    let taking = c.loop-i.invariant.taking (subst AreLawfulOrBlank (sym c.into_list-left.ensures) lawful) in
+    let join = taking_ends all (map batch_of c.loop-i.taken.items) (map batch_of c.loop-i.left.items) c.args.front place taking none in
+    subst (λ xs. Join xs c.args.front c.of.result place) c.into_list-left.ensures (subst (λ t. Join all c.args.front t place) (sym c.of.ensures) join)

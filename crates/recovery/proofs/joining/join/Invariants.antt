@@ -1,0 +1,13 @@
+use Rattle.std.proofs.Common.{◌<◌, ◌^◌, ◌-◌, map}
+use Rattle.journal_slots.specs.Batches.{batch_of}
+use Rattle.recovery.specs.Joins.{AreLawfulOrBlank, IsTaking}
+use Rattle.recovery.proofs.joining.join.Given as goal
+
+abbrev pub invariant-loop-i : goal.invariant-loop-i
+invariant-loop-i g l = record {
+  small : l.place < 2 ^ 63;
+  taking : AreLawfulOrBlank (map batch_of l.initial.left.items) → IsTaking (map batch_of l.initial.left.items) l.initial.place (map batch_of l.taken.items) (map batch_of l.left.items) l.place;
+}
+
+abbrev pub decreases-loop-i : goal.decreases-loop-i
+decreases-loop-i g l = 2 ^ 63 - l.place

@@ -1,0 +1,6 @@
+pub mod Beginnings
+pub mod Faults
+pub mod Refusals
+pub mod Joins
+pub mod Surveys
+pub mod Laws
