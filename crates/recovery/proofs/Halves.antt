@@ -1,15 +1,16 @@
 -- What two scans find in the journal, and that no page of what was scanned is bad.
 use Rattle.std.proofs.Common.{◌≡◌, ◌⊎◌, inl, inr, ◌<◌, ◌≤◌, ◌+◌, ◌-◌, ◌==◌, ℕ, zero, suc, List, [], ◌∷◌, ◌++◌, filter, length, get_or, slice_index, Some, Contains, refl, sym, ap, subst, ◌∙◌, arith, length-append}
 use Rattle.std.specs.Prelude.{slice_get, All}
-use Rattle.std.proofs.lemmas.List.Elements.{All-filter, filter-append}
+use Rattle.std.proofs.lemmas.List.Elements.{All-filter, filter-append, Contains-append_left, Contains-append_right}
 use Rattle.std.proofs.lemmas.Option.{slice_get-get_or, slice_get_within}
 use Rattle.grid_types.specs.declared.shape.Shape.{Shape}
 use Rattle.grid_types.specs.Pages.{page_of}
 use Rattle.grid_types.specs.Shapes as places
+use Rattle.grid_types.proofs.Places.{one-of-two}
 use Rattle.grid_model.specs.Lists.{below}
 use Rattle.grid_model.specs.Spellings.{LoggedBatch}
 use Rattle.grid_model.specs.Lawful.{IsBatch}
-use Rattle.grid_model.specs.Images.{Gates, HasGatesOf, HasBatches, open_slots, open_slots_of, of_session, last_gate}
+use Rattle.grid_model.specs.Images.{Gates, HasGatesOf, HasBatches, open_slots, open_slots_of, of_session, last_gate, Found, IsFound}
 use Rattle.grid_model.proofs.Members.{contains-filter, contains-range, contains-map}
 use Rattle.journal_slots.proofs.OneScan.{the_gates}
 use Rattle.journal_slots.specs.declared.scan.Scan.{Scan}
@@ -98,3 +99,10 @@ module _ {K : ℕ} (s : Shape) (image : List ℕ) where
         are = batches ∙ (λ i. first.found.are i ++ second.found.are i) ∙ sym (filter-append test first.found.all second.found.all);
         used = used ∙ (λ i. first.used i ∷ second.used i ∷ []);
       }
+
+-- no page of a half is bad where all that a survey looks for is found
+pub found_good : {K : ℕ} (image : List ℕ) (f : Found K) (n : ℕ) → IsFound image f n → (half : ℕ) → half < 2 → IsGoodHalf K f.shape image half
+found_good image f n is half two = elim (one-of-two half two) [
+  | inl first ↦ rw first (good_half f.shape image 0 f.gates.first (open_slots f.gates) f.batches is.gates.first is.batches (λ slot there. Contains-append_left (open_slots_of f.gates.first 0) (open_slots_of f.gates.second 1) slot there))
+  | inr second ↦ rw second (good_half f.shape image 1 f.gates.second (open_slots f.gates) f.batches is.gates.second is.batches (λ slot there. Contains-append_right (open_slots_of f.gates.first 0) (open_slots_of f.gates.second 1) slot there))
+]

@@ -1,3 +1,5 @@
 mod Refusing
 mod Taking
 mod Halves
+mod Firsts
+mod OneAnswer

@@ -1,6 +1,7 @@
 -- Batches that are taken out of a list, one after the other.
-use Rattle.std.proofs.Common.{◌≡◌, ◌≢◌, inl, inr, ◌<◌, ◌≤◌, ◌+◌, ◌==◌, ℕ, zero, suc, Bool, true, false, List, [], ◌∷◌, ◌++◌, length, get_or, set, cond, Option, Some, None, refl, sym, ap, subst, ◌∙◌, arith, append_assoc, eq-eqb}
+use Rattle.std.proofs.Common.{◌≡◌, ◌≢◌, inl, inr, ◌<◌, ◌≤◌, ◌+◌, ◌==◌, ℕ, zero, suc, Bool, true, false, List, [], ◌∷◌, ◌++◌, length, get_or, set, cond, Option, Some, None, refl, sym, ap, subst, ◌∙◌, arith, append_assoc, length-append, flat_map, eq-eqb}
 use Rattle.std.specs.List as lists
+use Rattle.std.proofs.lemmas.Grind.{flat_map-append}
 use Rattle.std.proofs.lemmas.Bool.{cases_eq, ne_eqb}
 use Rattle.std.proofs.lemmas.List.{append-nil, length-set, get_or-set_other, get_or-set_same}
 use Rattle.grid_model.specs.Spellings.{LoggedBatch}
@@ -74,3 +75,11 @@ module _ {K : ℕ} where
   taking_ends all taken left front place had none =
       let nothing : joining left place ≡ None = find_none (λ c. c.first == place + 1) blank left (λ i lt. not_next left place i had.lawful lt (none i lt)) in
       subst (λ bs. Join all front bs place) (append-nil taken) (had.joined [] place (refl, had.same place (omega arith) ∙ nothing))
+
+-- the place counts the updates of a batch more
+pub one_counted : {K : ℕ} (front place next : ℕ) (taken more : List (LoggedBatch K)) (b : LoggedBatch K) → place ≡ front + length (flat_map (λ c. c.updates) taken) → more ≡ taken ++ b ∷ [] → next ≡ place + length b.updates
+    → next ≡ front + length (flat_map (λ c. c.updates) more)
+one_counted {K} front place next taken more b counted added reached =
+    let updates : LoggedBatch K → _ = λ c. c.updates in
+    let all : flat_map updates more ≡ flat_map updates taken ++ b.updates = ap (flat_map updates) added ∙ flat_map-append updates taken (b ∷ []) ∙ ap (λ us. flat_map updates taken ++ us) (append-nil b.updates) in
+    omega (arith, counted, reached, ap length all, length-append (flat_map updates taken) b.updates)

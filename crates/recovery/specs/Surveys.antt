@@ -1,9 +1,12 @@
 -- What a survey of a file finds.
-use Rattle.std.specs.Prelude.{◌≡◌, ◌∷◌, [], ℕ, List}
+use Rattle.std.specs.Prelude.{◌≡◌, ◌<◌, ◌≤◌, ◌+◌, ◌*◌, ◌^◌, ◌∷◌, [], ℕ, List, length, flat_map, replicate}
+use Rattle.grid_types.specs.declared.sizes.TheConstants.{PAGE_BYTES}
 use Rattle.grid_types.specs.declared.shape.Shape.{Shape}
+use Rattle.grid_types.specs.Shapes.{area_pages, file_pages}
 use Rattle.grid_model.specs.Spellings.{LoggedBatch}
 use Rattle.grid_model.specs.Images.{Gates, HasGates, HasBatches, open_slots, of_session, last_gate, Found, IsFound}
-use Rattle.linear_scales.specs.Roots.{root_fields_of, area_of}
+use Rattle.linear_scales.specs.Limited.{limits_of}
+use Rattle.linear_scales.specs.Roots.{root_fields_of, area_of, IsRoot}
 use Rattle.recovery.specs.declared.journal.Journal.{Journal}
 use Rattle.recovery.specs.declared.survey.Survey.{Survey}
 
@@ -35,3 +38,16 @@ pub record IsSurvey {K : ℕ} (image : List ℕ) (survey : Survey K) : Type 0 wh
   pub batches : List (LoggedBatch K)
   pub found : IsFound image (found_in survey gates batches) survey.front
   pub used : survey.used ≡ last_gate gates.first ∷ last_gate gates.second ∷ []
+
+-- what a survey tells is lawful, also of a disk that does not tell its content: the shape is one of K attributes, whose pages are all there; the root is lawful, and its scales have the shape's limit; and the front is the root's and one more for each update that was taken, a place of 63 bits
+pub record IsLawfulSurvey {K : ℕ} (extent : ℕ) (survey : Survey K) : Type 0 where
+  pub attributes : survey.geometry.shape.k ≡ K
+  pub size : file_pages survey.geometry.shape * PAGE_BYTES ≤ extent
+  pub root : IsRoot survey.geometry.shape survey.root
+  pub limits : limits_of survey.root.scales ≡ replicate K survey.geometry.shape.boundaries
+  pub front_is : survey.front ≡ survey.root.front + length (flat_map (λ b. b.updates) survey.taken)
+  pub small : survey.front < 2 ^ 63
+
+-- how many pages a survey reads at most: both header pages for the shape and again for the root, a table area, and both halves of the journal
+abbrev pub survey_pages : Shape → ℕ
+survey_pages s = 2 + (2 + area_pages s) + (2 + 2 * s.slots)

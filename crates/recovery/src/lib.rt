@@ -4,8 +4,12 @@
 mod joined;
 mod joining;
 mod journal;
+mod laws;
 mod shape;
 mod survey;
+mod surveying;
 
+pub use laws::survey_law;
 pub use shape::read_shape;
 pub use survey::Survey;
+pub use surveying::survey_file;

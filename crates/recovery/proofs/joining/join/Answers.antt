@@ -1,10 +1,10 @@
-use Rattle.std.proofs.Common.{map, length, sym, subst, ap, ◌+◌, ◌∙◌, arith, ◌∷◌, []}
+use Rattle.std.proofs.Common.{List, flat_map, map, length, sym, subst, ap, ◌+◌, ◌∙◌, arith, ◌∷◌, []}
 use Rattle.std.proofs.lemmas.List.{map-append}
 use Rattle.grid_model.specs.Spellings as model
 use Rattle.grid_model.specs.Images.{Join}
 use Rattle.journal_slots.specs.Batches.{batch_of}
 use Rattle.recovery.specs.Joins.{AreLawfulOrBlank, IsFirstOn, NoneLeadsOn}
-use Rattle.recovery.proofs.Taking.{taking_more, taking_ends}
+use Rattle.recovery.proofs.Taking.{taking_more, taking_ends, one_counted}
 use Rattle.recovery.proofs.joining.join.Goals as goal
 
 pub loop-i-preserved : goal.loop-i-preserved
@@ -17,10 +17,14 @@ loop-i-preserved g c =
     let first = subst (λ xs. IsFirstOn (map batch_of xs) place c.in-Some.i) c.deref.ensures.value c.in-Some.ensures.found in
     record {
       small = omega (arith, first.leads.small, ap (λ (x : model.LoggedBatch g.row.K). length x.updates) out.taken, count);
+      count = one_counted c.args.front place (place + c.len.result) (map batch_of taken) (map batch_of c.push.new.self.items) (batch_of b) c.loop-i.invariant.count (ap (map batch_of) c.in_ok-push.ensures.items ∙ map-append batch_of taken (b ∷ [])) (ap (λ n. place + n) count);
       taking = λ lawful. taking_more (map batch_of c.into_list-left.result.items) (map batch_of taken) (map batch_of c.loop-i.left.items) (map batch_of c.push.new.self.items) (map batch_of c.take_out-batch.new.batches.items)
           c.args.front place (place + c.len.result) c.in-Some.i (batch_of b) (c.loop-i.invariant.taking lawful) first out.taken
           (ap (map batch_of) c.in_ok-push.ensures.items ∙ map-append batch_of taken (b ∷ [])) out.left (ap (λ n. place + n) count);
     }
+
+pub returns-clause-count : goal.returns-clause-count
+returns-clause-count g c = c.loop-i.invariant.count ∙ ap (λ (t : List (model.LoggedBatch g.row.K)). c.args.front + length (flat_map (λ b. b.updates) t)) (sym c.of.ensures)
 
 pub returns-clause-joined : goal.returns-clause-joined
 returns-clause-joined g c = λ lawful.

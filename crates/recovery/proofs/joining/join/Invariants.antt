@@ -1,4 +1,4 @@
-use Rattle.std.proofs.Common.{◌<◌, ◌^◌, ◌-◌, map}
+use Rattle.std.proofs.Common.{◌≡◌, ◌<◌, ◌^◌, ◌+◌, ◌-◌, flat_map, length, map}
 use Rattle.journal_slots.specs.Batches.{batch_of}
 use Rattle.recovery.specs.Joins.{AreLawfulOrBlank, IsTaking}
 use Rattle.recovery.proofs.joining.join.Given as goal
@@ -6,6 +6,7 @@ use Rattle.recovery.proofs.joining.join.Given as goal
 abbrev pub invariant-loop-i : goal.invariant-loop-i
 invariant-loop-i g l = record {
   small : l.place < 2 ^ 63;
+  count : l.place ≡ l.initial.place + length (flat_map (λ b. b.updates) (map batch_of l.taken.items));
   taking : AreLawfulOrBlank (map batch_of l.initial.left.items) → IsTaking (map batch_of l.initial.left.items) l.initial.place (map batch_of l.taken.items) (map batch_of l.left.items) l.place;
 }
 
