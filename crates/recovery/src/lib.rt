@@ -13,3 +13,6 @@ pub use laws::survey_law;
 pub use shape::read_shape;
 pub use survey::Survey;
 pub use surveying::survey_file;
+
+#[cfg(test)]
+mod tests;
