@@ -2,7 +2,7 @@
 use Rattle.std.proofs.Common.{◌≡◌, ◌⊎◌, inl, inr, ◌<◌, ◌≤◌, ◌+◌, ◌-◌, ◌==◌, ℕ, zero, suc, List, [], ◌∷◌, ◌++◌, filter, length, get_or, slice_index, Some, Contains, refl, sym, ap, subst, ◌∙◌, arith, length-append}
 use Rattle.std.specs.Prelude.{slice_get, All}
 use Rattle.std.proofs.lemmas.List.Elements.{All-filter, filter-append, Contains-append_left, Contains-append_right}
-use Rattle.std.proofs.lemmas.Option.{slice_get-get_or, slice_get_within}
+use Rattle.std.proofs.lemmas.Option.{slice_get-get_or}
 use Rattle.grid_types.specs.declared.shape.Shape.{Shape}
 use Rattle.grid_types.specs.Pages.{page_of}
 use Rattle.grid_types.specs.Shapes as places
@@ -10,11 +10,11 @@ use Rattle.grid_types.proofs.Places.{one-of-two}
 use Rattle.grid_model.specs.Lists.{below}
 use Rattle.grid_model.specs.Spellings.{LoggedBatch}
 use Rattle.grid_model.specs.Lawful.{IsBatch}
-use Rattle.grid_model.specs.Images.{Gates, HasGatesOf, HasBatches, open_slots, open_slots_of, of_session, last_gate, Found, IsFound}
+use Rattle.grid_model.specs.Images.{HasGatesOf, HasBatches, open_slots, open_slots_of, of_session, Found, IsFound}
 use Rattle.grid_model.proofs.Members.{contains-filter, contains-range, contains-map}
 use Rattle.journal_slots.proofs.OneScan.{the_gates}
 use Rattle.journal_slots.specs.declared.scan.Scan.{Scan}
-use Rattle.journal_slots.specs.Scans.{IsScan, IsFirstBadPage, SpellsSome}
+use Rattle.journal_slots.specs.Scans.{IsScan, SpellsSome}
 use Rattle.recovery.specs.Faults.{IsGoodHalf}
 use Rattle.recovery.specs.Joins.{AreLawfulOrBlank, blank}
 use Rattle.recovery.specs.Surveys.{IsJournal}

@@ -2,4 +2,5 @@ mod Refusing
 mod Taking
 mod Halves
 mod Firsts
+mod Good
 mod OneAnswer

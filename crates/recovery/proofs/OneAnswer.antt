@@ -1,5 +1,5 @@
 -- An image has one answer: what is found in it, or its first fault.
-use Rattle.std.proofs.Common.{◌≡◌, ◌≢◌, ◌⊎◌, inl, inr, ◌<◌, ◌≤◌, ◌+◌, ◌*◌, ◌++◌, ℕ, List, [], ◌∷◌, length, take, drop, slice_index, flat_map, codes, refl, sym, ap, subst, ◌∙◌, arith, length-append, IsTrue}
+use Rattle.std.proofs.Common.{◌≡◌, ◌⊎◌, inl, inr, ◌<◌, ◌≤◌, ◌+◌, ◌*◌, ◌++◌, ℕ, List, [], ◌∷◌, length, take, drop, slice_index, flat_map, codes, refl, sym, ap, subst, ◌∙◌, arith, length-append, IsTrue}
 use Rattle.std.proofs.lemmas.List.{take-take, take-append-drop}
 use Rattle.grid_types.specs.declared.shape.Shape.{Shape}
 use Rattle.grid_types.specs.declared.refusal.Refusal.{Refusal}
@@ -10,7 +10,7 @@ use Rattle.grid_types.specs.Shapes as places
 use Rattle.page_fields.specs.Fields.{number, bytes_of}
 use Rattle.page_fields.specs.Padded.{padded}
 use Rattle.grid_model.specs.Spellings.{LoggedBatch, shape_bytes}
-use Rattle.grid_model.specs.Images.{HasShape, Join, Found, IsFound, updates_taken}
+use Rattle.grid_model.specs.Images.{HasShape, Join, Found, IsFound}
 use Rattle.grid_model.specs.Roots.{WholeRoot, IsNewestWhole}
 use Rattle.root_pages.specs.Headers.{SpellsShape}
 use Rattle.root_pages.proofs.ShapePlaces.{shape_there, shape_again}
@@ -20,8 +20,8 @@ use Rattle.file_roots.specs.Damage.{IsRootDamage}
 use Rattle.file_roots.proofs.Headers.{header_inside}
 use Rattle.file_roots.proofs.Naming.{one_is_damaged}
 use Rattle.file_roots.proofs.Unique.{undamaged, one_file_shape}
-use Rattle.recovery.specs.Beginnings.{version_on, BeginsAsGrid, IsForeign, IsOurs, HasUnknownVersion, IsShapeless, IsShort, IsUneven, BeginsWhole, IsShapeFault}
-use Rattle.recovery.specs.Faults.{IsOtherArity, IsGoodHalf, IsJournalDamage, HasBadJournal, IsDamagedBehind, IsFirstFault}
+use Rattle.recovery.specs.Beginnings.{version_on, BeginsAsGrid, IsForeign, IsOurs, HasUnknownVersion, IsShapeless, IsShort, IsUneven, BeginsWhole}
+use Rattle.recovery.specs.Faults.{IsOtherArity, IsJournalDamage, HasBadJournal, IsDamagedBehind, IsFirstFault}
 use Rattle.recovery.specs.Laws.{HasOneAnswer, CountsUpdates}
 use Rattle.recovery.proofs.Halves.{found_good}
 

@@ -1,5 +1,5 @@
 -- Batches that are taken out of a list, one after the other.
-use Rattle.std.proofs.Common.{◌≡◌, ◌≢◌, inl, inr, ◌<◌, ◌≤◌, ◌+◌, ◌==◌, ℕ, zero, suc, Bool, true, false, List, [], ◌∷◌, ◌++◌, length, get_or, set, cond, Option, Some, None, refl, sym, ap, subst, ◌∙◌, arith, append_assoc, length-append, flat_map, eq-eqb}
+use Rattle.std.proofs.Common.{◌≡◌, inl, inr, ◌<◌, ◌≤◌, ◌+◌, ◌==◌, ℕ, zero, suc, Bool, true, false, List, [], ◌∷◌, ◌++◌, length, get_or, set, cond, Some, None, refl, sym, ap, subst, ◌∙◌, arith, append_assoc, length-append, flat_map, eq-eqb}
 use Rattle.std.specs.List as lists
 use Rattle.std.proofs.lemmas.Grind.{flat_map-append}
 use Rattle.std.proofs.lemmas.Bool.{cases_eq, ne_eqb}

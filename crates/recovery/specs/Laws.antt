@@ -1,5 +1,5 @@
 -- What the definitions of surveys promise.
-use Rattle.std.specs.Prelude.{◌≡◌, ◌<◌, ◌+◌, ◌^◌, ℕ, List, length}
+use Rattle.std.specs.Prelude.{◌≡◌, ◌+◌, ℕ, List, length}
 use Rattle.grid_types.specs.declared.refusal.Refusal.{Refusal}
 use Rattle.grid_model.specs.Images.{Found, IsFound, updates_taken}
 use Rattle.recovery.specs.Faults.{IsFirstFault}

@@ -1,6 +1,6 @@
 //! A file is judged before it is opened: its shape, its newest root, its journal, in this order.
 ghost use Rattle.std.specs.Prelude.{◌≡◌, ◌<◌, ◌≤◌, ◌+◌, ◌*◌, ◌^◌, ◌⊎◌, ℕ, IsTrue, IfOk, IfErr, IsErrOf};
-ghost use Rattle.grid_types.specs.declared.refusal.Refusal.TheVariants.{Damaged};
+ghost use Rattle.grid_types.specs.declared.refusal.Refusal.TheVariants.{Damaged, ReadFault};
 ghost use Rattle.grid_types.specs.declared.sizes.TheConstants.{PAGE_BYTES};
 ghost use Rattle.grid_types.specs.declared.shape.Shape.{Shape};
 ghost use Rattle.grid_types.specs.Shapes.{file_pages};
@@ -8,13 +8,14 @@ ghost use Rattle.disk_trait.specs.Calls.{OnlyReads, HasCauses};
 ghost use Rattle.journal_slots.specs.Scans.{IsRefusalOfScan};
 ghost use Rattle.recovery.specs.Beginnings.{BeginsWhole};
 ghost use Rattle.recovery.specs.Faults.{IsJournalDamage, IsFirstFault, IsNoFaultOr};
+ghost use Rattle.recovery.specs.Reads.{IsJournalGoodUpTo, AreGoodUpTo};
 ghost use Rattle.recovery.specs.Refusals.{MayRefuseSurvey};
 ghost use Rattle.recovery.specs.Surveys.{IsJournal, IsSurvey, IsLawfulSurvey, survey_pages};
 
-use crate::journal::Journal;
 use crate::joining::join;
-use crate::survey::Survey;
+use crate::journal::Journal;
 use crate::read_shape;
+use crate::survey::Survey;
 use disk_trait::{Disk, Steps};
 use file_roots::read_newest;
 use grid_types::{Geometry, Half, PAGE_BYTES, Refusal};
@@ -38,7 +39,13 @@ fn read_journal<const K: usize, D: Disk, L: Ledger>(
         → (p : ℕ)
         → IsErrOf result (Damaged p)
         → IsJournalDamage K geometry.now.shape (D.seen disk.old) p }
+    ensures before { IsTrue (D.honest disk.old)
+        → IsErrOf result ReadFault
+        → (n : ℕ)
+        → steps.new ≡ steps.old + n + 1
+        → IsJournalGoodUpTo K geometry.now.shape (D.seen disk.old) n }
     ensures causes { HasCauses D.Disk IsRefusalOfScan disk.old disk.new result }
+    ensures least { steps.old + 1 ≤ steps.new }
     ensures most { steps.new ≤ steps.old + 2 + 2 * geometry.now.shape.slots }
     ensures same { OnlyReads D.Disk disk.old disk.new }
 {
@@ -65,6 +72,11 @@ pub fn survey_file<const K: usize, D: Disk, L: Ledger>(
     ensures found { IsTrue (D.honest disk.old) → IfOk result (IsSurvey (D.seen disk.old)) }
     ensures first { IsTrue (D.honest disk.old)
         → IfErr result (IsNoFaultOr (IsFirstFault K (D.seen disk.old))) }
+    ensures before { IsTrue (D.honest disk.old)
+        → IsErrOf result ReadFault
+        → (n : ℕ)
+        → steps.new ≡ steps.old + n + 1
+        → AreGoodUpTo K (D.seen disk.old) n }
     ensures lawful { IfOk result (IsLawfulSurvey (D.extent disk.old)) }
     ensures same { OnlyReads D.Disk disk.old disk.new }
     ensures causes { HasCauses D.Disk MayRefuseSurvey disk.old disk.new result }

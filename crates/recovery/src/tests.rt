@@ -6,10 +6,14 @@ use super::*;
 use arrayvec::ArrayVec;
 use disk_memory::Memory;
 use disk_trait::Steps;
-use grid_types::{Geometry, Half, Key, LayoutChange, LoggedUpdate, PAGE_BYTES, Refusal, Shape, Update};
+use grid_types::{
+    Geometry, Half, Key, LayoutChange, LoggedUpdate, PAGE_BYTES, Refusal, Shape, Update,
+};
 use journal_slots::{Batch, encode, encode_gates};
 use linear_scales::NOWHERE;
-use root_pages::{RootHeader, encode_fields, encode_header, encode_list, encode_scale, encode_table};
+use root_pages::{
+    RootHeader, encode_fields, encode_header, encode_list, encode_scale, encode_table,
+};
 use std::alloc::{AllocError, Global};
 use std::marker::Brand;
 use std::sync::ledger::{Blank, Ledger};
@@ -105,7 +109,9 @@ fn new_file(alloc: Global, pages: usize) -> Result<Vec<u8>, AllocError>
 fn put_batch(image: &mut [u8], slot_page: usize, gate: usize, session: u64, first: u64) {
     let mut updates = ArrayVec::new();
     updates.push(LoggedUpdate {
-        update: Update::Remove(Key { numbers: [first, 7] }),
+        update: Update::Remove(Key {
+            numbers: [first, 7],
+        }),
         note: LayoutChange::Plain,
     });
     let batch = Batch::<2> {

@@ -1,4 +1,4 @@
-use Rattle.std.proofs.Common.{◌≡◌, ◌*◌, ◌≤◌, inl, inr, ℕ, List, length, sym, ap, ◌∙◌, arith, subst}
+use Rattle.std.proofs.Common.{◌≡◌, ◌*◌, ◌≤◌, inl, ℕ, List, length, sym, ap, ◌∙◌, arith, subst}
 use Rattle.grid_types.specs.Pages.{page_of}
 use Rattle.grid_types.specs.Shapes.{file_pages}
 use Rattle.grid_types.proofs.Places.{within-limits}

@@ -1,6 +1,5 @@
-use Rattle.std.proofs.Common.{◌≡◌, ◌*◌, ◌≤◌, inl, inr, ℕ, List, length, take, refl, sym, ap, subst, ◌∙◌, arith, true≢false}
+use Rattle.std.proofs.Common.{◌≡◌, inr, take, refl, sym, ap, subst, ◌∙◌, arith, true≢false}
 use Rattle.grid_types.specs.Pages.{page_of}
-use Rattle.grid_types.specs.Shapes.{file_pages}
 use Rattle.root_pages.specs.Headers.{SpellsShape}
 use Rattle.recovery.proofs.Refusing.{told_on, shape_no_read, shape_no_write}
 use Rattle.recovery.proofs.shape.read_shape.Goals as goal

@@ -1,14 +1,19 @@
-use Rattle.std.proofs.Common.{◌≡◌, refl, sym, ap, subst, ◌∙◌, arith}
-use Rattle.grid_types.specs.declared.refusal.Refusal.TheVariants.{Damaged}
+use Rattle.std.proofs.Common.{◌≡◌, ◌+◌, ◌-◌, inl, inr, refl, subst, ◌∙◌, arith}
+use Rattle.grid_types.specs.declared.refusal.Refusal.TheVariants.{Damaged, ReadFault}
+use Rattle.grid_types.proofs.Places.{one-of-two}
 use Rattle.grid_model.specs.Images.{HasShape}
 use Rattle.grid_model.specs.Roots.{IsNewestWhole}
 use Rattle.linear_scales.specs.Roots.{whole_of}
 use Rattle.root_pages.proofs.Roots.{few_attributes}
+use Rattle.grid_types.specs.Shapes.{area_pages}
+use Rattle.file_roots.specs.Reading.{AreRootPagesGood}
 use Rattle.file_roots.specs.Damage.{IsRootDamage}
-use Rattle.file_roots.proofs.Outcomes.{refused_so}
+use Rattle.file_roots.proofs.Outcomes.{refused_so, same_refusal}
 use Rattle.disk_trait.proofs.Calls.{reads_then}
 use Rattle.recovery.specs.Faults.{IsJournalDamage, IsFirstFault, IsNoFaultOr}
+use Rattle.recovery.specs.Reads.{IsJournalGoodUpTo}
 use Rattle.recovery.specs.Surveys.{IsJournal, survey_pages}
+use Rattle.recovery.proofs.Good.{good_none, good_first, good_roots, good_journal}
 use Rattle.recovery.proofs.Firsts.{on_refusal, after_shape, after_root, after_journal, survey_of, pages_same}
 use Rattle.recovery.proofs.surveying.survey_file.Goals as goal
 
@@ -107,3 +112,36 @@ returns-clause-most g c = λ h s begins.
     let shape = c.in_ok-geometry.ensures in
     let same : survey_pages c.in_ok-geometry.geometry.shape ≡ survey_pages s = pages_same (g.D.Disk.seen c.args.disk.now) _ c.in_ok-geometry.geometry.shape s (shape.found h) begins in
     omega (arith, same, shape.ticks.all, c.in_ok-root.ensures.ticks.all, c.in_ok-journal.ensures.most)
+
+pub returns-in_err-geometry-clause-before : goal.returns-in_err-geometry-clause-before
+returns-in_err-geometry-clause-before g c = λ h is n e.
+    let seen = g.D.Disk.seen c.args.disk.now in
+    let shape = c.in_err-geometry.ensures in
+    elim (one-of-two n (omega (arith, e, shape.ticks.most))) [
+      | inl none ↦ good_none seen n none
+      | inr one ↦ let begun = shape.before h (omega (arith, e, one)) in good_first seen n begun.0 one begun.1
+    ]
+
+pub returns-in_err-root-clause-before : goal.returns-in_err-root-clause-before
+returns-in_err-root-clause-before g c = λ h is n e.
+    let s = c.in_ok-geometry.geometry.shape in
+    let seen = g.D.Disk.seen c.args.disk.now in
+    let shape = c.in_ok-geometry.ensures in
+    let has = subst (λ k. HasShape k seen s) c.if-geometry.false (shape.found h) in
+    let root = c.in_err-root.ensures in
+    good_roots seen s has n (omega (arith, e, shape.ticks.all, root.ticks.most))
+    (λ le. subst (λ i. AreRootPagesGood s i (n - 2)) (shape.same.seen h) ((root.tells (shape.same.honest ∙ h)).good_before (n - 2) (omega (arith, e, le, shape.ticks.all)) (omega (arith, le))))
+
+pub returns-in_err-journal-clause-before : goal.returns-in_err-journal-clause-before
+returns-in_err-journal-clause-before g c = λ h is n e.
+    let s = c.in_ok-geometry.geometry.shape in
+    let seen = g.D.Disk.seen c.args.disk.now in
+    let shape = c.in_ok-geometry.ensures in
+    let has = subst (λ k. HasShape k seen s) c.if-geometry.false (shape.found h) in
+    let root = c.in_ok-root.ensures in
+    let whole = subst (λ i. IsNewestWhole s (whole_of c.in_ok-root.root) i) (shape.same.seen h) ((root.tells (shape.same.honest ∙ h)).found) in
+    let same = reads_then shape.same root.same in
+    let told = same_refusal c.from_residual-in_err-journal.result c.in_err-journal.field-0.0 ReadFault c.from_residual-in_err-journal.ensures.1 is in
+    let m = n - (4 + area_pages s) in
+    good_journal seen s has (whole_of c.in_ok-root.root) whole n m (omega (arith, e, shape.ticks.all, root.ticks.all, c.in_err-journal.ensures.least))
+    (subst (λ i. IsJournalGoodUpTo g.row.K s i m) (same.seen h) (c.in_err-journal.ensures.before (same.honest ∙ h) (refused_so _ _ told) m (omega (arith, e, shape.ticks.all, root.ticks.all, c.in_err-journal.ensures.least))))
