@@ -1,0 +1,14 @@
+pub mod Keeping
+pub mod Began
+pub mod Spelled
+pub mod Regions
+pub mod After
+pub mod CutNames
+pub mod MergeNames
+pub mod Told
+pub mod Imaged
+pub mod Faults
+pub mod Patched
+pub mod Written
+pub mod PartLoop
+pub mod Owners

@@ -1,0 +1,5 @@
+pub mod Pages
+pub mod Directories
+pub mod Calls
+pub mod NewPages
+pub mod Images
