@@ -16,3 +16,6 @@ pub use growing::grow_part;
 pub use pages::ChangePages;
 pub use room::PartRoom;
 pub use writing::write_change;
+
+#[cfg(test)]
+mod tests;

@@ -1,0 +1,2 @@
+mod changed;
+mod list_pages;
