@@ -6,7 +6,8 @@ use Rattle.std.proofs.lemmas.List.Folds.{list_any_at}
 use Rattle.grid_types.specs.declared.cell_box.CellBox.{CellBox}
 use Rattle.grid_types.specs.declared.sizes.TheConstants.{WORDS_ON_PAGE}
 use Rattle.grid_types.specs.Shapes.{word_pages}
-use Rattle.grid_model.specs.Lists.{below, from_to, zip_with, choices, product, is_among}
+use Rattle.grid_types.specs.Lists.{zip_with}
+use Rattle.grid_model.specs.Lists.{below, from_to, choices, product, is_among}
 use Rattle.grid_model.specs.Cells.{cell_index, InCellBox}
 use Rattle.grid_model.specs.ScaleLaws.{IsCell}
 use Rattle.grid_model.proofs.Members.{contains-first, contains-none, contains-split, contains-map, contains-from-map, contains-flat, contains-from-flat, contains-range, contains-from-range, contains-filter, among-from-contains, contains-later}

@@ -9,7 +9,8 @@ use Rattle.grid_types.specs.declared.layout_change.LayoutChange.TheVariants as n
 use Rattle.grid_types.specs.declared.region.Region.{Region}
 use Rattle.grid_types.specs.declared.sizes.TheConstants.{WORDS_ON_PAGE, MOST_CELLS}
 use Rattle.grid_types.specs.Shapes.{word_pages}
-use Rattle.grid_model.specs.Lists.{below, from_to, zip_with, product, choices}
+use Rattle.grid_types.specs.Lists.{zip_with}
+use Rattle.grid_model.specs.Lists.{below, from_to, product, choices}
 use Rattle.grid_model.specs.Scales.{scale_of, interval}
 use Rattle.grid_model.specs.Cells.{cell_of, cell_index}
 use Rattle.grid_model.specs.ScaleLaws.{IsCell}

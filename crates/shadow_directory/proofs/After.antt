@@ -14,7 +14,7 @@ use Rattle.grid_types.specs.declared.update.Update.{Update}
 use Rattle.grid_types.specs.Regions.{contains, IsRegion}
 use Rattle.grid_types.specs.Keys.{IsKey}
 use Rattle.grid_model.specs.Lists.{product, is_among}
-use Rattle.grid_model.specs.Scales.{is_scale, is_drawn, scale_of, interval, intervals, refined_at, top}
+use Rattle.grid_model.specs.Scales.{is_scale, is_drawn, scale_of, interval, intervals, refined_at}
 use Rattle.grid_model.specs.Cells.{dims, corner, all_cells, cell_index, image_of, InCellBox}
 use Rattle.grid_model.specs.ScaleLaws.{IsCell}
 use Rattle.grid_model.specs.Tables.{Table, effect}

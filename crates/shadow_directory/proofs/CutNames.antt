@@ -10,7 +10,7 @@ use Rattle.grid_types.specs.Regions.{contains, IsRegion}
 use Rattle.grid_types.specs.Keys.{IsKey}
 use Rattle.grid_types.proofs.Numbers.{both}
 use Rattle.grid_model.specs.Lists.{is_among}
-use Rattle.grid_model.specs.Scales.{is_scale, is_drawn, scale_of, interval, intervals, refined_at, top}
+use Rattle.grid_model.specs.Scales.{is_scale, is_drawn, scale_of, interval, intervals, refined_at}
 use Rattle.grid_model.specs.Cells.{dims, corner, image_of, InCellBox}
 use Rattle.grid_model.specs.ScaleLaws.{IsCell}
 use Rattle.grid_model.specs.Tables.{Table}
@@ -18,7 +18,8 @@ use Rattle.grid_model.specs.Layouts.{BucketBox, Layout, box, holder, Apart, IsSo
 use Rattle.grid_model.specs.Notes.{left_of, right_of, scales_after, split}
 use Rattle.grid_model.proofs.Boxes.{one-box, some-not-none}
 use Rattle.grid_model.proofs.CutBoxes.{box-right, box-left, box-other, split-numbered, split-apart}
-use Rattle.grid_model.proofs.CutRegions.{left-contains, right-contains, above-low, up-to-high}
+use Rattle.grid_model.proofs.CutRegions.{left-contains, right-contains}
+use Rattle.grid_types.proofs.Parted.{up-to-high}
 use Rattle.grid_model.proofs.CutScales.{CutsScale, AreScales, AreAfter, cut-scales, drawn-above}
 use Rattle.grid_model.proofs.Holders.{holder-box}
 use Rattle.grid_model.proofs.LowestKeys.{corner-long, corner-number}

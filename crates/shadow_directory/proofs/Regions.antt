@@ -6,7 +6,7 @@ use lib.Pointwise.{pointwise}
 use Rattle.grid_types.specs.Regions.{contains, IsRegion}
 use Rattle.grid_types.proofs.Numbers.{both, first, second, all-at-most, each-at-most, as-long}
 use Rattle.grid_model.specs.Lists.{is_among}
-use Rattle.grid_model.specs.Scales.{is_scale, interval, intervals, lows, highs, scale_of, top}
+use Rattle.grid_model.specs.Scales.{is_scale, interval, intervals, lows, highs, scale_of}
 use Rattle.grid_model.specs.Cells.{dims, cell_of, corner, InCellBox}
 use Rattle.grid_model.specs.ScaleLaws.{IsCell}
 use Rattle.grid_model.specs.Layouts.{BucketBox, IsDrawn}

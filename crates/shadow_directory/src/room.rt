@@ -2,6 +2,7 @@
 use grid_types::PAGE_BYTES;
 
 /// The page buffers by which directory parts are written.
+#[derive(Drop)]
 pub struct PartRoom {
     /// The page of an old part.
     pub old_page: [u8; PAGE_BYTES],

@@ -204,3 +204,105 @@ fn outcome<const K: usize>(
     }
     Ok((told, pages.reads, pages.new.len()))
 }
+
+#[test]
+#[tactic(auto, using(grid_cells::proofs::Literals::literal))]
+fn directories_grow(rt: HostRuntime) -> Result<(), Fail> {
+    let intervals = [3000];
+    let old = Dims { intervals };
+    let intervals = [3001];
+    let new = Dims { intervals };
+    let (lo, hi) = ([1501], [1507]);
+    let change = DirectoryChange::Grow {
+        attribute: 0,
+        interval: 1500,
+        cells: CellBox { lo, hi },
+        bucket: 70000,
+    };
+    assert_eq!(rt; outcome(rt.alloc(), &old, &new, &change, 9)?, (Ok(()), 3, 5));
+    let intervals = [3, 1000];
+    let old = Dims { intervals };
+    let intervals = [4, 1000];
+    let new = Dims { intervals };
+    let (lo, hi) = ([1, 10], [1, 500]);
+    let change = DirectoryChange::Grow {
+        attribute: 0,
+        interval: 0,
+        cells: CellBox { lo, hi },
+        bucket: 1,
+    };
+    assert_eq!(rt; outcome(rt.alloc(), &old, &new, &change, 9)?, (Ok(()), 3, 5));
+    let intervals = [50, 60];
+    let old = Dims { intervals };
+    let intervals = [50, 61];
+    let new = Dims { intervals };
+    let (lo, hi) = ([20, 8], [30, 60]);
+    let change = DirectoryChange::Grow {
+        attribute: 1,
+        interval: 7,
+        cells: CellBox { lo, hi },
+        bucket: 1,
+    };
+    assert_eq!(rt; outcome(rt.alloc(), &old, &new, &change, 90)?, (Ok(()), 3, 5));
+    let intervals = [7, 2, 700];
+    let old = Dims { intervals };
+    let intervals = [7, 3, 700];
+    let new = Dims { intervals };
+    let (lo, hi) = ([6, 2, 0], [6, 1, 699]);
+    let change = DirectoryChange::Grow {
+        attribute: 1,
+        interval: 1,
+        cells: CellBox { lo, hi },
+        bucket: 1,
+    };
+    assert_eq!(rt; outcome(rt.alloc(), &old, &new, &change, 90)?.0, Ok(()));
+    Ok(())
+}
+
+#[test]
+#[tactic(auto, using(grid_cells::proofs::Literals::literal))]
+fn boxes_are_patched(rt: HostRuntime) -> Result<(), Fail> {
+    let intervals = [50, 50];
+    let dims = Dims { intervals };
+    let (lo, hi) = ([15, 10], [45, 20]);
+    let change = DirectoryChange::Patch {
+        cells: CellBox { lo, hi },
+        bucket: 70000,
+    };
+    assert_eq!(rt; outcome(rt.alloc(), &dims, &dims, &change, 90)?, (Ok(()), 3, 4));
+    let intervals = [2000];
+    let dims = Dims { intervals };
+    let (lo, hi) = ([400], [1500]);
+    let change = DirectoryChange::Patch {
+        cells: CellBox { lo, hi },
+        bucket: 4,
+    };
+    assert_eq!(rt; outcome(rt.alloc(), &dims, &dims, &change, 90)?, (Ok(()), 2, 3));
+    let change = DirectoryChange::Nothing;
+    assert_eq!(rt; outcome(rt.alloc(), &dims, &dims, &change, 1)?, (Ok(()), 0, 1));
+    Ok(())
+}
+
+#[test]
+#[tactic(auto, using(grid_cells::proofs::Literals::literal))]
+fn failed_calls_are_told(rt: HostRuntime) -> Result<(), Fail> {
+    let intervals = [2000];
+    let dims = Dims { intervals };
+    let (lo, hi) = ([400], [1500]);
+    let change = DirectoryChange::Patch {
+        cells: CellBox { lo, hi },
+        bucket: 4,
+    };
+    let cases = [
+        (0, Err(Refusal::WriteFault), 0, 0),
+        (1, Err(Refusal::ReadFault), 0, 1),
+        (2, Err(Refusal::WriteFault), 1, 1),
+        (3, Err(Refusal::ReadFault), 1, 2),
+        (4, Err(Refusal::WriteFault), 2, 2),
+        (5, Ok(()), 2, 3),
+    ];
+    for (calls, told, reads, pages) in cases {
+        assert_eq!(rt; outcome(rt.alloc(), &dims, &dims, &change, calls)?, (told, reads, pages));
+    }
+    Ok(())
+}
