@@ -69,8 +69,8 @@ fn gather<const K: usize, P: ChangePages, L: Ledger>(
     ensures gathered { (D : List ℕ)
         → Tells P.ChangePages pages.old dims.now.intervals D
         → OnOk result ((k : ℕ)
-            → k < count
-            → slice_index buckets.new k ≡ slice_index D (slice_index images.now k)) }
+        → k < count
+        → slice_index buckets.new k ≡ slice_index D (slice_index images.now k)) }
     ensures held { Holds P.ChangePages dims.now.intervals pages.new held.new page.new }
     ensures honest { (D : List ℕ)
         → Tells P.ChangePages pages.old dims.now.intervals D
@@ -114,7 +114,7 @@ pub fn grow_part<const K: usize, P: ChangePages, L: Ledger>(
         → Tells P.ChangePages pages.old dims.now.intervals D
         → IsPartAfter dims.now.intervals (Grow attribute interval cells.now bucket) D part after
         → OnOk result (P.written pages.new
-            ≡ P.written pages.old ++ (Part part, directory_spelling part after) ∷ []) }
+        ≡ P.written pages.old ++ (Part part, directory_spelling part after) ∷ []) }
     ensures held { OnOk result
         (Holds P.ChangePages dims.now.intervals pages.new held.new room.new.old_page) }
     ensures honest { (D : List ℕ)
@@ -132,7 +132,16 @@ pub fn grow_part<const K: usize, P: ChangePages, L: Ledger>(
     let mut buckets = [0; 1000];
     let count = find_images(dims, refined, part, attribute, interval, &mut images);
     let old_page = &mut room.old_page;
-    gather(pages, dims, &images, count, held, old_page, &mut buckets, steps)?;
+    gather(
+        pages,
+        dims,
+        &images,
+        count,
+        held,
+        old_page,
+        &mut buckets,
+        steps,
+    )?;
     encode(part, &buckets[..count], &mut room.page);
     patch_cell_box(&mut room.page, part, refined, cells, bucket);
     write_page(pages, Owner::Part(part), &room.page)

@@ -35,7 +35,7 @@ pub fn patch_part<const K: usize, P: ChangePages, L: Ledger>(
         → Tells P.ChangePages pages.old dims.now.intervals D
         → IsPartAfter dims.now.intervals (Patch cells.now bucket) D part after
         → OnOk result (P.written pages.new
-            ≡ P.written pages.old ++ (Part part, directory_spelling part after) ∷ []) }
+        ≡ P.written pages.old ++ (Part part, directory_spelling part after) ∷ []) }
     ensures honest { (D : List ℕ)
         → Tells P.ChangePages pages.old dims.now.intervals D
         → IfErr result IsFault }

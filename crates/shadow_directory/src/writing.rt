@@ -52,10 +52,7 @@ pub fn write_page<P: ChangePages>(
 }
 
 /// Writes the new pages of buckets.
-fn write_buckets<P: ChangePages>(
-    pages: &mut P,
-    buckets: &[NewBucket<'_>],
-) -> Result<(), Refusal>
+fn write_buckets<P: ChangePages>(pages: &mut P, buckets: &[NewBucket<'_>]) -> Result<(), Refusal>
     requires { length buckets.now ≤ P.room pages.old }
     ensures written { OnOk result
         (P.written pages.new ≡ P.written pages.old ++ bucket_pages buckets.now) }
@@ -92,7 +89,7 @@ fn write_part<const K: usize, P: ChangePages, L: Ledger>(
         → Tells P.ChangePages pages.old dims.now.intervals D
         → IsPartAfter dims.now.intervals change.now D part after
         → OnOk result (P.written pages.new
-            ≡ P.written pages.old ++ (Part part, directory_spelling part after) ∷ []) }
+        ≡ P.written pages.old ++ (Part part, directory_spelling part after) ∷ []) }
     ensures held { OnOk result
         (Holds P.ChangePages dims.now.intervals pages.new held.new room.new.old_page) }
     ensures honest { (D : List ℕ)
@@ -142,7 +139,7 @@ fn write_parts<const K: usize, P: ChangePages, L: Ledger>(
         → Tells P.ChangePages pages.old dims.now.intervals D
         → AreAfter dims.now.intervals change.now D after
         → OnOk result (P.written pages.new ≡ P.written pages.old
-            ++ part_pages after (parts_changed dims.now.intervals change.now)) }
+        ++ part_pages after (parts_changed dims.now.intervals change.now)) }
     ensures honest { (D : List ℕ)
         → Tells P.ChangePages pages.old dims.now.intervals D
         → IfErr result IsFault }
@@ -153,7 +150,7 @@ fn write_parts<const K: usize, P: ChangePages, L: Ledger>(
         (P.written pages.old) (P.written pages.new)) }
     ensures began { OnErr result
         (BeganFor (map Part (parts_changed dims.now.intervals change.now))
-            (P.written pages.old) (P.written pages.new)) }
+        (P.written pages.old) (P.written pages.new)) }
 {
     let mut held = None;
     for part in 0..parts_after(dims, change) {
@@ -185,7 +182,7 @@ pub fn write_change<const K: usize, P: ChangePages, L: Ledger>(
         → dims.now.intervals ≡ cells.dims L.scales
         → change.now ≡ directory_change L e n
         → bucket_pages buckets.now
-            ≡ map (new_page L t u n e) (map Bucket (renewed L e n).buckets)
+        ≡ map (new_page L t u n e) (map Bucket (renewed L e n).buckets)
         → OnOk result (P.written pages.new ≡ P.written pages.old ++ new_pages L t u n e) }
     ensures honest { (shape : Shape) (L : Layout K) (t : Table) (u : Update K) (n : LayoutChange)
         (e : ℕ × BucketBox K)
@@ -201,7 +198,7 @@ pub fn write_change<const K: usize, P: ChangePages, L: Ledger>(
         (P.written pages.old) (P.written pages.new)) }
     ensures began { OnErr result (BeganFor
         (map (λ b. Bucket b.number) buckets.now
-            ++ map Part (parts_changed dims.now.intervals change.now))
+        ++ map Part (parts_changed dims.now.intervals change.now))
         (P.written pages.old) (P.written pages.new)) }
 {
     write_buckets(pages, buckets)?;

@@ -1,5 +1,5 @@
 //! Changes of directories, compared cell by cell with a plain computation.
-ghost use Rattle.std.specs.Prelude.{◌≡◌, ◌<◌, ◌≤◌, ◌*◌, IfOk};
+ghost use Rattle.std.specs.Prelude.{◌≡◌, ◌<◌, ◌≤◌, length, IfOk};
 ghost use Rattle.grid_types.specs.Shapes.{word_pages};
 ghost use Rattle.grid_model.specs.Lists.{product};
 ghost use Rattle.directory_changes.specs.Changes.{IsChangeOf};
@@ -41,15 +41,17 @@ fn pages_of<const K: usize>(
     dims: &Dims<K>,
     calls: u32,
 ) -> Result<ListPages, AllocError>
+    ensures parts { IfOk result (λ p. length p.before.items ≡ word_pages (product dims.now.intervals)) }
+    ensures room { IfOk result (λ p. p.room ≡ 2000) }
 {
-    let mut old = Vec::new(alloc);
+    let mut before = Vec::new(alloc);
     for part in 0..dims.cells().div_ceil(1000) {
         let count = (dims.cells() - 1000 * part).min(1000);
-        old.push(old_page(part, count as usize))?;
+        before.push(old_page(part, count as usize))?;
     }
     Ok(ListPages {
-        old,
-        new: Vec::new(alloc),
+        before,
+        written: Vec::new(alloc),
         room: 2000,
         reads: 0,
         calls_left: calls,
@@ -145,7 +147,7 @@ fn is_changed<const K: usize>(
     change: &DirectoryChange<K>,
 ) -> bool {
     let mut count: usize = 0;
-    for written in &pages.new {
+    for written in &pages.written {
         let is_right = match written.owner {
             Owner::Bucket(number) => count == 0 && number == 5 && written.page[7] == 9,
             Owner::Part(part) => count != 0 && is_part(&written.page, part, old, new, change),
@@ -166,21 +168,35 @@ fn change_with<const K: usize, L: Ledger>(
     room: &mut PartRoom,
     blank: Blank,
 ) -> Result<(), Refusal>
-    requires name { blank.name ≡ L.name }
-    requires parts { blank.parts ≡ L.parts }
-    requires some { 0 < L.parts }
     requires change { IsChangeOf dims.now.intervals change.now }
+    requires parts { length pages.old.before.items ≡ word_pages (product dims.now.intervals) }
+    requires room { 1001 ≤ pages.old.room }
+    requires name { blank.name ≡ L.name }
+    requires shares { blank.parts ≡ L.parts }
+    requires some { 0 < L.parts }
 {
     let mut steps = Steps::<L>::new(blank);
-    if pages.old.len() as u64 != u64::from(dims.cells().div_ceil(1000)) || pages.room < 1001 {
-        return Err(Refusal::BadShape);
-    }
+    let _count = count_changed_parts(dims, change);
     let page = [9; PAGE_BYTES];
     let bucket = NewBucket {
         number: 5,
         page: &page,
     };
     write_change(pages, &[bucket], dims, change, room, &mut steps)
+}
+
+/// The same, with a count of steps of its own.
+fn changed<const K: usize>(
+    pages: &mut ListPages,
+    dims: &Dims<K>,
+    change: &DirectoryChange<K>,
+    room: &mut PartRoom,
+) -> Result<(), Refusal>
+    requires change { IsChangeOf dims.now.intervals change.now }
+    requires parts { length pages.old.before.items ≡ word_pages (product dims.now.intervals) }
+    requires room { 1001 ≤ pages.old.room }
+{
+    change_with::<K, Brand>(pages, dims, change, room, Blank::new(1))
 }
 
 /// What came of a change: its outcome, how many parts were read, and how many pages were written, all of them right.
@@ -198,11 +214,11 @@ fn outcome<const K: usize>(
         old_page: [0; PAGE_BYTES],
         page: [0; PAGE_BYTES],
     };
-    let told = change_with::<K, Brand>(&mut pages, old, change, &mut room, Blank::new(1));
+    let told = changed(&mut pages, old, change, &mut room);
     if !is_changed(&pages, old, new, change) {
         return Err("wrong page")?;
     }
-    Ok((told, pages.reads, pages.new.len()))
+    Ok((told, pages.reads, pages.written.len()))
 }
 
 #[test]
@@ -219,7 +235,10 @@ fn directories_grow(rt: HostRuntime) -> Result<(), Fail> {
         cells: CellBox { lo, hi },
         bucket: 70000,
     };
-    assert_eq!(rt; outcome(rt.alloc(), &old, &new, &change, 9)?, (Ok(()), 3, 5));
+    assert_eq!(rt;
+        outcome(rt.alloc(), &old, &new, &change, 9)?,
+        (Ok(()), 3, 5)
+    );
     let intervals = [3, 1000];
     let old = Dims { intervals };
     let intervals = [4, 1000];
@@ -231,7 +250,10 @@ fn directories_grow(rt: HostRuntime) -> Result<(), Fail> {
         cells: CellBox { lo, hi },
         bucket: 1,
     };
-    assert_eq!(rt; outcome(rt.alloc(), &old, &new, &change, 9)?, (Ok(()), 3, 5));
+    assert_eq!(rt;
+        outcome(rt.alloc(), &old, &new, &change, 9)?,
+        (Ok(()), 3, 5)
+    );
     let intervals = [50, 60];
     let old = Dims { intervals };
     let intervals = [50, 61];
@@ -243,7 +265,10 @@ fn directories_grow(rt: HostRuntime) -> Result<(), Fail> {
         cells: CellBox { lo, hi },
         bucket: 1,
     };
-    assert_eq!(rt; outcome(rt.alloc(), &old, &new, &change, 90)?, (Ok(()), 3, 5));
+    assert_eq!(rt;
+        outcome(rt.alloc(), &old, &new, &change, 90)?,
+        (Ok(()), 3, 5)
+    );
     let intervals = [7, 2, 700];
     let old = Dims { intervals };
     let intervals = [7, 3, 700];
@@ -269,7 +294,10 @@ fn boxes_are_patched(rt: HostRuntime) -> Result<(), Fail> {
         cells: CellBox { lo, hi },
         bucket: 70000,
     };
-    assert_eq!(rt; outcome(rt.alloc(), &dims, &dims, &change, 90)?, (Ok(()), 3, 4));
+    assert_eq!(rt;
+        outcome(rt.alloc(), &dims, &dims, &change, 90)?,
+        (Ok(()), 3, 4)
+    );
     let intervals = [2000];
     let dims = Dims { intervals };
     let (lo, hi) = ([400], [1500]);
@@ -277,9 +305,15 @@ fn boxes_are_patched(rt: HostRuntime) -> Result<(), Fail> {
         cells: CellBox { lo, hi },
         bucket: 4,
     };
-    assert_eq!(rt; outcome(rt.alloc(), &dims, &dims, &change, 90)?, (Ok(()), 2, 3));
+    assert_eq!(rt;
+        outcome(rt.alloc(), &dims, &dims, &change, 90)?,
+        (Ok(()), 2, 3)
+    );
     let change = DirectoryChange::Nothing;
-    assert_eq!(rt; outcome(rt.alloc(), &dims, &dims, &change, 1)?, (Ok(()), 0, 1));
+    assert_eq!(rt;
+        outcome(rt.alloc(), &dims, &dims, &change, 1)?,
+        (Ok(()), 0, 1)
+    );
     Ok(())
 }
 
@@ -302,7 +336,10 @@ fn failed_calls_are_told(rt: HostRuntime) -> Result<(), Fail> {
         (5, Ok(()), 2, 3),
     ];
     for (calls, told, reads, pages) in cases {
-        assert_eq!(rt; outcome(rt.alloc(), &dims, &dims, &change, calls)?, (told, reads, pages));
+        assert_eq!(rt;
+            outcome(rt.alloc(), &dims, &dims, &change, calls)?,
+            (told, reads, pages)
+        );
     }
     Ok(())
 }

@@ -16,8 +16,8 @@ pub struct WrittenPage {
 /// The pages of the old parts, and those that were written. After so many calls each fails.
 #[derive(Drop)]
 pub struct ListPages {
-    pub old: Vec<[u8; PAGE_BYTES]>,
-    pub new: Vec<WrittenPage>,
+    pub before: Vec<[u8; PAGE_BYTES]>,
+    pub written: Vec<WrittenPage>,
     pub room: u32,
     pub reads: u32,
     pub calls_left: u32,
@@ -39,11 +39,11 @@ impl ListPages {
 impl ChangePages for ListPages {
     ghost pages = { λ s. None };
 
-    ghost written = { λ s. map (λ w. (w.owner, w.page)) s.new.items };
+    ghost written = { λ s. map (λ w. (w.owner, w.page)) s.written.items };
 
     ghost room = { λ s. s.room };
 
-    ghost parts = { λ s. length s.old.items };
+    ghost parts = { λ s. length s.before.items };
 
     ghost lies_at = { λ s part page. page ≡ part };
 
@@ -66,13 +66,16 @@ impl ChangePages for ListPages {
         self.calls_left -= 1;
         self.reads = self.reads.wrapping_add(1);
         steps.tick();
-        *page = self.old[part as usize];
+        *page = self.before[part as usize];
         Ok(part)
     }
 
     fn write_new(&mut self, owner: Owner, page: &[u8; PAGE_BYTES]) -> Result<(), DiskFailed> {
         let is_written = self.calls_left != 0
-            && self.new.push(WrittenPage { owner, page: *page }).is_ok();
+            && self
+                .written
+                .push(WrittenPage { owner, page: *page })
+                .is_ok();
         if !is_written {
             self.write_faults = self.write_faults.saturating_add(1);
             return Err(DiskFailed);
