@@ -166,180 +166,144 @@ fn change_with<const K: usize, L: Ledger>(
     dims: &Dims<K>,
     change: &DirectoryChange<K>,
     room: &mut PartRoom,
-    blank: Blank,
+    steps: &mut Steps<L>,
 ) -> Result<(), Refusal>
     requires change { IsChangeOf dims.now.intervals change.now }
     requires parts { length pages.old.before.items ≡ word_pages (product dims.now.intervals) }
     requires room { 1001 ≤ pages.old.room }
-    requires name { blank.name ≡ L.name }
-    requires shares { blank.parts ≡ L.parts }
-    requires some { 0 < L.parts }
 {
-    let mut steps = Steps::<L>::new(blank);
     let _count = count_changed_parts(dims, change);
     let page = [9; PAGE_BYTES];
     let bucket = NewBucket {
         number: 5,
         page: &page,
     };
-    write_change(pages, &[bucket], dims, change, room, &mut steps)
+    write_change(pages, &[bucket], dims, change, room, steps)
 }
 
-/// The same, with a count of steps of its own.
-fn changed<const K: usize>(
-    pages: &mut ListPages,
-    dims: &Dims<K>,
-    change: &DirectoryChange<K>,
-    room: &mut PartRoom,
-) -> Result<(), Refusal>
-    requires change { IsChangeOf dims.now.intervals change.now }
-    requires parts { length pages.old.before.items ≡ word_pages (product dims.now.intervals) }
-    requires room { 1001 ≤ pages.old.room }
-{
-    change_with::<K, Brand>(pages, dims, change, room, Blank::new(1))
-}
-
-/// What came of a change: its outcome, how many parts were read, and how many pages were written, all of them right.
-fn outcome<const K: usize>(
+/// Whether this comes of a change: its outcome, how many parts are read, and how many pages are written, all of them right.
+fn comes<const K: usize, L: Ledger>(
     alloc: Global,
-    old: &Dims<K>,
-    new: &Dims<K>,
-    change: &DirectoryChange<K>,
-    calls: u32,
-) -> Result<(Result<(), Refusal>, u32, usize), Fail>
-    requires change { IsChangeOf old.now.intervals change.now }
+    case: (&Dims<K>, &Dims<K>, &DirectoryChange<K>, u32),
+    expected: (Result<(), Refusal>, u32, usize),
+    steps: &mut Steps<L>,
+) -> Result<bool, Fail>
+    requires change { IsChangeOf case.0.now.intervals case.2.now }
 {
+    let (old, new, change, calls) = case;
     let mut pages = pages_of(alloc, old, calls)?;
     let mut room = PartRoom {
         old_page: [0; PAGE_BYTES],
         page: [0; PAGE_BYTES],
     };
-    let told = changed(&mut pages, old, change, &mut room);
-    if !is_changed(&pages, old, new, change) {
-        return Err("wrong page")?;
-    }
-    Ok((told, pages.reads, pages.written.len()))
+    let told = change_with(&mut pages, old, change, &mut room, steps);
+    let is_right = is_changed(&pages, old, new, change);
+    Ok(is_right && (told, pages.reads, pages.written.len()) == expected)
 }
 
-#[test]
+/// Whether directories of one to three attributes grow.
 #[tactic(auto, using(grid_cells::proofs::Literals::literal))]
-fn directories_grow(rt: HostRuntime) -> Result<(), Fail> {
+fn they_grow<L: Ledger>(alloc: Global, blank: Blank) -> Result<bool, Fail>
+    requires name { blank.name ≡ L.name }
+    requires shares { blank.parts ≡ L.parts }
+    requires some { 0 < L.parts }
+{
+    let mut steps = Steps::<L>::new(blank);
+    let (attribute, interval, bucket) = (0, 1500, 70000);
     let intervals = [3000];
     let old = Dims { intervals };
     let intervals = [3001];
     let new = Dims { intervals };
     let (lo, hi) = ([1501], [1507]);
+    let cells = CellBox { lo, hi };
     let change = DirectoryChange::Grow {
-        attribute: 0,
-        interval: 1500,
-        cells: CellBox { lo, hi },
-        bucket: 70000,
+        attribute,
+        interval,
+        cells,
+        bucket,
     };
-    assert_eq!(rt;
-        outcome(rt.alloc(), &old, &new, &change, 9)?,
-        (Ok(()), 3, 5)
-    );
-    let intervals = [3, 1000];
-    let old = Dims { intervals };
-    let intervals = [4, 1000];
-    let new = Dims { intervals };
-    let (lo, hi) = ([1, 10], [1, 500]);
-    let change = DirectoryChange::Grow {
-        attribute: 0,
-        interval: 0,
-        cells: CellBox { lo, hi },
-        bucket: 1,
-    };
-    assert_eq!(rt;
-        outcome(rt.alloc(), &old, &new, &change, 9)?,
-        (Ok(()), 3, 5)
-    );
+    let line = comes(alloc, (&old, &new, &change, 9), (Ok(()), 3, 5), &mut steps)?;
+    let (attribute, interval) = (1, 7);
     let intervals = [50, 60];
     let old = Dims { intervals };
     let intervals = [50, 61];
     let new = Dims { intervals };
     let (lo, hi) = ([20, 8], [30, 60]);
+    let cells = CellBox { lo, hi };
     let change = DirectoryChange::Grow {
-        attribute: 1,
-        interval: 7,
-        cells: CellBox { lo, hi },
-        bucket: 1,
+        attribute,
+        interval,
+        cells,
+        bucket,
     };
-    assert_eq!(rt;
-        outcome(rt.alloc(), &old, &new, &change, 90)?,
-        (Ok(()), 3, 5)
-    );
-    let intervals = [7, 2, 700];
+    let plane = comes(alloc, (&old, &new, &change, 9), (Ok(()), 3, 5), &mut steps)?;
+    let (attribute, interval) = (0, 0);
+    let intervals = [3, 10, 100];
     let old = Dims { intervals };
-    let intervals = [7, 3, 700];
+    let intervals = [4, 10, 100];
     let new = Dims { intervals };
-    let (lo, hi) = ([6, 2, 0], [6, 1, 699]);
+    let (lo, hi) = ([1, 2, 10], [1, 7, 50]);
+    let cells = CellBox { lo, hi };
     let change = DirectoryChange::Grow {
-        attribute: 1,
-        interval: 1,
-        cells: CellBox { lo, hi },
-        bucket: 1,
+        attribute,
+        interval,
+        cells,
+        bucket,
     };
-    assert_eq!(rt; outcome(rt.alloc(), &old, &new, &change, 90)?.0, Ok(()));
-    Ok(())
+    let space = comes(alloc, (&old, &new, &change, 9), (Ok(()), 3, 5), &mut steps)?;
+    Ok(line && plane && space)
 }
 
-#[test]
+/// Whether boxes that lie on several parts are patched, and each call that fails is told.
 #[tactic(auto, using(grid_cells::proofs::Literals::literal))]
-fn boxes_are_patched(rt: HostRuntime) -> Result<(), Fail> {
+fn they_are_patched<L: Ledger>(alloc: Global, blank: Blank) -> Result<bool, Fail>
+    requires name { blank.name ≡ L.name }
+    requires shares { blank.parts ≡ L.parts }
+    requires some { 0 < L.parts }
+{
+    let mut steps = Steps::<L>::new(blank);
     let intervals = [50, 50];
-    let dims = Dims { intervals };
+    let plane = Dims { intervals };
     let (lo, hi) = ([15, 10], [45, 20]);
-    let change = DirectoryChange::Patch {
-        cells: CellBox { lo, hi },
-        bucket: 70000,
-    };
-    assert_eq!(rt;
-        outcome(rt.alloc(), &dims, &dims, &change, 90)?,
-        (Ok(()), 3, 4)
-    );
+    let cells = CellBox { lo, hi };
+    let change = DirectoryChange::Patch { cells, bucket: 4 };
+    if !comes(
+        alloc,
+        (&plane, &plane, &change, 9),
+        (Ok(()), 3, 4),
+        &mut steps,
+    )? {
+        return Ok(false);
+    }
     let intervals = [2000];
-    let dims = Dims { intervals };
+    let line = Dims { intervals };
     let (lo, hi) = ([400], [1500]);
-    let change = DirectoryChange::Patch {
-        cells: CellBox { lo, hi },
-        bucket: 4,
-    };
-    assert_eq!(rt;
-        outcome(rt.alloc(), &dims, &dims, &change, 90)?,
-        (Ok(()), 2, 3)
-    );
-    let change = DirectoryChange::Nothing;
-    assert_eq!(rt;
-        outcome(rt.alloc(), &dims, &dims, &change, 1)?,
-        (Ok(()), 0, 1)
-    );
+    let cells = CellBox { lo, hi };
+    let change = DirectoryChange::Patch { cells, bucket: 4 };
+    let cases = [
+        (0, (Err(Refusal::WriteFault), 0, 0)),
+        (1, (Err(Refusal::ReadFault), 0, 1)),
+        (2, (Err(Refusal::WriteFault), 1, 1)),
+        (3, (Err(Refusal::ReadFault), 1, 2)),
+        (4, (Err(Refusal::WriteFault), 2, 2)),
+        (5, (Ok(()), 2, 3)),
+    ];
+    for (calls, expected) in cases {
+        if !comes(alloc, (&line, &line, &change, calls), expected, &mut steps)? {
+            return Ok(false);
+        }
+    }
+    Ok(true)
+}
+
+#[test]
+fn directories_grow(rt: HostRuntime) -> Result<(), Fail> {
+    assert!(rt; they_grow::<Brand>(rt.alloc(), Blank::new(1))?);
     Ok(())
 }
 
 #[test]
-#[tactic(auto, using(grid_cells::proofs::Literals::literal))]
-fn failed_calls_are_told(rt: HostRuntime) -> Result<(), Fail> {
-    let intervals = [2000];
-    let dims = Dims { intervals };
-    let (lo, hi) = ([400], [1500]);
-    let change = DirectoryChange::Patch {
-        cells: CellBox { lo, hi },
-        bucket: 4,
-    };
-    let cases = [
-        (0, Err(Refusal::WriteFault), 0, 0),
-        (1, Err(Refusal::ReadFault), 0, 1),
-        (2, Err(Refusal::WriteFault), 1, 1),
-        (3, Err(Refusal::ReadFault), 1, 2),
-        (4, Err(Refusal::WriteFault), 2, 2),
-        (5, Ok(()), 2, 3),
-    ];
-    for (calls, told, reads, pages) in cases {
-        assert_eq!(rt;
-            outcome(rt.alloc(), &dims, &dims, &change, calls)?,
-            (told, reads, pages)
-        );
-    }
+fn boxes_are_patched(rt: HostRuntime) -> Result<(), Fail> {
+    assert!(rt; they_are_patched::<Brand>(rt.alloc(), Blank::new(1))?);
     Ok(())
 }
