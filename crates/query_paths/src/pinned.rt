@@ -112,9 +112,9 @@ pub trait Pinned<const K: usize> {
     fn read_faults(&self) -> u64
         ensures { result ≡ faults self.now };
 
-    /// A value is left as it was by no reading.
+    /// Where nothing was read, all stays.
     ghost stays_self: { (p : Self) → stays p p };
 
-    /// What two readings leave as it was, one after the other, both leave.
+    /// What one reading leaves as it was, and then another one, both together do.
     ghost stays_on: { (p q r : Self) → stays p q → stays q r → stays p r };
 }
