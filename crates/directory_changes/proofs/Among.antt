@@ -1,6 +1,6 @@
 -- The parts of a box are those that hold a cell of it.
-use Rattle.std.proofs.Common.{◌≡◌, ◌<◌, ◌≤◌, ◌+◌, ◌-◌, ◌*◌, ◌/◌, ◌==◌, ◌↔◌, ◌⊎◌, inl, inr, ℕ, zero, suc, Bool, true, List, [], ◌∷◌, length, slice_index, get_or, map, filter, Contains, refl, sym, ap, ◌∙◌, subst, arith, eqb-true, eq-eqb, cond, ◌++◌}
-use Rattle.std.specs.List.{list_any, range_with_len}
+use Rattle.std.proofs.Common.{◌≡◌, ◌≤◌, ◌+◌, ◌-◌, ◌/◌, ◌==◌, ◌⊎◌, inl, inr, ℕ, zero, Bool, true, List, [], ◌∷◌, length, get_or, map, Contains, refl, ap, ◌∙◌, subst, arith, eqb-true, eq-eqb}
+use Rattle.std.specs.List.{list_any}
 use Rattle.std.proofs.lemmas.Bool.{or_cases}
 use Rattle.std.proofs.lemmas.List.Folds.{list_any_at}
 use Rattle.grid_types.specs.declared.cell_box.CellBox.{CellBox}
@@ -8,8 +8,7 @@ use Rattle.grid_types.specs.declared.sizes.TheConstants.{WORDS_ON_PAGE}
 use Rattle.grid_types.specs.Shapes.{word_pages}
 use Rattle.grid_types.specs.Lists.{zip_with}
 use Rattle.grid_model.specs.Lists.{below, from_to, choices, product, is_among}
-use Rattle.grid_model.specs.Cells.{cell_index, InCellBox}
-use Rattle.grid_model.specs.ScaleLaws.{IsCell}
+use Rattle.grid_model.specs.Cells.{cell_index}
 use Rattle.grid_model.proofs.Members.{contains-first, contains-none, contains-split, contains-map, contains-from-map, contains-flat, contains-from-flat, contains-range, contains-from-range, contains-filter, among-from-contains, contains-later}
 use Rattle.grid_model.proofs.Counts.{among-filter}
 use Rattle.directory_pages.specs.CellBoxes.{HoldsCell}

@@ -1,5 +1,5 @@
 -- How many parts a change renews, and that they are the directory's.
-use Rattle.std.proofs.Common.{◌≡◌, ◌<◌, ◌≤◌, ◌+◌, ◌*◌, ◌++◌, ℕ, zero, suc, Bool, true, false, cond, List, [], ◌∷◌, length, slice_index, filter, drop, refl, sym, ap, ◌∙◌, arith, true≢false, length-append, IsTrue}
+use Rattle.std.proofs.Common.{◌≡◌, ◌<◌, ◌≤◌, ◌+◌, ◌++◌, ℕ, zero, suc, Bool, true, false, cond, List, [], ◌∷◌, length, slice_index, filter, drop, refl, sym, ap, ◌∙◌, arith, true≢false, length-append, IsTrue}
 use Rattle.std.specs.List.{range_with_len}
 use Rattle.std.specs.Cmp.{both_ways}
 use Rattle.std.proofs.Math.Nat.{le-mul_of_pos_right}

@@ -1,9 +1,9 @@
 -- The numbers of intervals with one more in an attribute.
-use Rattle.std.proofs.Common.{◌≡◌, ◌<◌, ◌≤◌, ◌+◌, ◌*◌, ◌/◌, ℕ, zero, suc, List, [], ◌∷◌, length, slice_index, slice_set, map, refl, sym, ap, ◌∙◌, arith, IsTrue, false}
+use Rattle.std.proofs.Common.{◌≡◌, ◌<◌, ◌≤◌, ◌+◌, ◌*◌, ◌/◌, ℕ, zero, suc, List, [], ◌∷◌, length, slice_index, slice_set, refl, sym, ap, ◌∙◌, arith, IsTrue, false}
 use Rattle.std.proofs.Math.Nat.{mul_assoc, mul_comm, mul-div_cancel_left}
 use Rattle.std.proofs.lemmas.List.{map-set, get_or-map}
 use Rattle.grid_model.specs.Lists.{product, is_among}
-use Rattle.grid_model.specs.Scales.{scale_of, is_scale, intervals, refined, refined_at, interval}
+use Rattle.grid_model.specs.Scales.{scale_of, is_scale, intervals, refined, refined_at}
 use Rattle.grid_model.specs.Cells.{dims}
 use Rattle.grid_model.proofs.ScaleLaws.{refined-longer}
 use Rattle.directory_changes.specs.Changes.{grown}

@@ -1,5 +1,5 @@
 -- The boundary of a lawful cut.
-use Rattle.std.proofs.Common.{◌≡◌, inl, inr, ℕ, List, Some, sym, refl, subst, ◌∙◌}
+use Rattle.std.proofs.Common.{◌≡◌, inl, inr, ℕ, List, Some, sym, subst}
 use Rattle.std.specs.Prelude.{⊤}
 use Rattle.grid_types.specs.declared.layout_change.Cut.{Cut}
 use Rattle.grid_types.specs.declared.layout_change.LayoutChange.{LayoutChange}
@@ -8,8 +8,8 @@ use Rattle.grid_types.specs.declared.shape.Shape.{Shape}
 use Rattle.grid_types.specs.declared.update.Update.{Update}
 use Rattle.grid_types.specs.declared.update.Update.TheVariants.{Put, Remove}
 use Rattle.grid_model.specs.Tables.{Table}
-use Rattle.grid_model.specs.Layouts.{BucketBox, Layout, holder}
-use Rattle.grid_model.specs.Notes.{updated_key, put_note, IsLawfulNote}
+use Rattle.grid_model.specs.Layouts.{Layout}
+use Rattle.grid_model.specs.Notes.{put_note, IsLawfulNote}
 use Rattle.grid_model.specs.LayoutLaws.{StandsOver}
 use Rattle.grid_model.proofs.CutLaws.{cuts-best}
 use Rattle.grid_model.proofs.CutParts.{Cuts, cuts}

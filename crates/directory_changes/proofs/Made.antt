@@ -1,5 +1,5 @@
 -- The directory's change from the layout's, and that it is one of the directory.
-use Rattle.std.proofs.Common.{◌≡◌, ◌<◌, ◌≤◌, ◌+◌, ℕ, Bool, true, false, cond, min, max, List, [], length, IsTrue, refl, sym, ap, subst, ◌∙◌, arith}
+use Rattle.std.proofs.Common.{◌≡◌, ◌<◌, ◌≤◌, ℕ, Bool, true, false, cond, min, max, List, [], length, IsTrue, sym, ap, subst, ◌∙◌, arith}
 use Rattle.std.proofs.lemmas.List.{length-map, get_or-map}
 use Rattle.std.specs.Option.{unwrap_or}
 use Rattle.grid_types.specs.declared.cell_box.CellBox.{CellBox}
@@ -7,13 +7,13 @@ use Rattle.grid_types.specs.declared.layout_change.Cut.{Cut}
 use Rattle.grid_types.specs.declared.layout_change.LayoutChange.TheVariants as note
 use Rattle.grid_types.specs.declared.region.Region.{Region}
 use Rattle.grid_types.specs.declared.sizes.TheConstants.{MOST_CELLS}
-use Rattle.grid_model.specs.Lists.{product, is_among}
+use Rattle.grid_model.specs.Lists.{product}
 use Rattle.grid_model.specs.Scales.{scale_of, is_scale, interval, intervals, refined_at}
 use Rattle.grid_model.specs.Cells.{dims, cells}
 use Rattle.grid_model.specs.Layouts.{BucketBox, Layout, box}
 use Rattle.grid_model.specs.Notes.{right_of, scales_after}
 use Rattle.grid_model.proofs.ScaleLaws.{few-intervals}
-use Rattle.directory_changes.specs.Changes.{cell_box, change_by_cut, directory_change, HasCorners, IsGrowth, grown}
+use Rattle.directory_changes.specs.Changes.{cell_box, directory_change, HasCorners, IsGrowth, grown}
 use Rattle.directory_changes.specs.Fresh.{IsFreshFor}
 use Rattle.directory_changes.specs.declared.change.DirectoryChange.{DirectoryChange}
 use Rattle.directory_changes.specs.declared.change.DirectoryChange.TheVariants.{Patch, Grow}

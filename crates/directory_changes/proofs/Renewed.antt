@@ -15,7 +15,7 @@ use Rattle.grid_model.specs.Notes.{right_of, scales_after}
 use Rattle.grid_model.specs.Lone.{renewed, need, spare}
 use Rattle.history_pages.specs.PageLaws.{IsChange}
 use Rattle.history_pages.proofs.Cutting.{CutsBox, lawful-cut}
-use Rattle.directory_changes.specs.Changes.{cell_box, change_by_cut, directory_change, parts_changed, grown}
+use Rattle.directory_changes.specs.Changes.{cell_box, directory_change, parts_changed, grown}
 use Rattle.directory_changes.specs.declared.change.DirectoryChange.{DirectoryChange}
 use Rattle.directory_changes.specs.declared.change.DirectoryChange.TheVariants.{Patch, Grow}
 use Rattle.directory_changes.proofs.Growing.{dims-refined}

@@ -9,12 +9,11 @@ use Rattle.grid_model.specs.Lists.{product}
 use Rattle.grid_model.specs.Cells.{cell_index, InCellBox}
 use Rattle.grid_model.specs.ScaleLaws.{IsCell}
 use Rattle.grid_model.proofs.Indices.{cell_index-below, cell_index-cons}
-use Rattle.grid_cells.specs.Dims.{IsDims}
-use Rattle.grid_cells.proofs.Products.{Positive, product-rest, rest-positive}
+use Rattle.grid_cells.proofs.Products.{Positive, product-rest}
 use Rattle.directory_pages.specs.CellBoxes.{HasIndex, HoldsCell}
 use Rattle.directory_changes.specs.Changes.{HasCorners}
 use Rattle.directory_changes.specs.Indices.{IsUpright, IsLeastFrom, IsNoneOnward, least_with}
-use Rattle.directory_changes.proofs.Least.{AreCorners, Lies, IsLeastAt, IsLeastOf, lies-cell, least-none, least-more}
+use Rattle.directory_changes.proofs.Least.{AreCorners, Lies, IsLeastOf, lies-cell, least-none, least-more}
 
 -- the corners of an upright box
 pub corners : {K : ℕ} (ns : List ℕ) (b : CellBox K) → HasCorners ns b → IsUpright b → AreCorners ns b.lo b.hi

@@ -1,5 +1,5 @@
 -- What a change does to the directory, and the directory parts that it renews.
-use Rattle.std.specs.Prelude.{◌≡◌, ◌<◌, ◌≤◌, ◌+◌, ◌/◌, ◌==◌, ℕ, List, [], Bool, max, min, length, filter, slice_index, slice_set, if◌then◌else◌, ⊤}
+use Rattle.std.specs.Prelude.{◌<◌, ◌≤◌, ◌+◌, ◌/◌, ◌==◌, ℕ, List, [], Bool, max, min, length, filter, slice_index, slice_set, if◌then◌else◌, ⊤}
 use Rattle.std.specs.List.{list_any}
 use Rattle.std.specs.Option.{unwrap_or}
 use Rattle.grid_types.specs.declared.cell_box.CellBox.{CellBox}

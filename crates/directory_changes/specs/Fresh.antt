@@ -1,5 +1,5 @@
 -- A boundary that is called fresh.
-use Rattle.std.specs.Prelude.{◌≡◌, ℕ, List, true, false, IsTrue}
+use Rattle.std.specs.Prelude.{◌≡◌, ℕ, List, false, IsTrue}
 use Rattle.grid_types.specs.declared.layout_change.Cut.{Cut}
 use Rattle.grid_model.specs.Lists.{is_among}
 use Rattle.grid_model.specs.Scales.{scale_of}

@@ -1,5 +1,5 @@
 -- The indices of the cells of a box.
-use Rattle.std.specs.Prelude.{◌≡◌, ◌<◌, ◌≤◌, ◌+◌, ◌*◌, ℕ, List, length, slice_index, nat_lt, if◌then◌else◌, Option, Some, None}
+use Rattle.std.specs.Prelude.{◌<◌, ◌≤◌, ◌+◌, ◌*◌, ℕ, List, length, slice_index, nat_lt, if◌then◌else◌, Option, Some, None}
 use Rattle.grid_types.specs.declared.cell_box.CellBox.{CellBox}
 use Rattle.directory_pages.specs.CellBoxes.{HasIndex}
 

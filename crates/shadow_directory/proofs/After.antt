@@ -1,31 +1,19 @@
 -- The cells of each part after a change of a layout are those after the directory's change.
-use Rattle.std.proofs.Common.{◌≡◌, ◌≢◌, ◌<◌, ◌≤◌, ◌+◌, ◌*◌, ◌^◌, ◌⊎◌, inl, inr, ℕ, Bool, true, false, cond, min, max, T, List, map, length, slice_index, slice_set, Option, Some, None, IsTrue, refl, sym, ap, ◌∙◌, subst, arith, true≢false, nat_cmp, nat_lt, lt-ltb, leb-true, option_map}
-use Rattle.std.proofs.lemmas.Bool.{cases_lt, or_cases}
-use Rattle.std.proofs.lemmas.List.{length-map, get_or-map, get_or-set_same, get_or-set_other, get_or_past}
+use Rattle.std.proofs.Common.{◌≡◌, ◌<◌, ◌+◌, ◌*◌, ℕ, true, T, List, map, length, slice_index, Some, refl, sym, ap, ◌∙◌, subst, arith, nat_cmp, option_map}
+use Rattle.std.proofs.lemmas.List.{length-map}
 use Rattle.std.proofs.lemmas.Option.{get_or_from_slice_get, slice_get-map}
 use Rattle.std.specs.FinMap.Entries.{is_sorted}
-use Rattle.std.specs.Option.{option_map_or, unwrap_or}
-use Rattle.grid_types.specs.declared.cell_box.CellBox.{CellBox}
-use Rattle.grid_types.specs.declared.layout_change.Cut.{Cut}
-use Rattle.grid_types.specs.declared.layout_change.LayoutChange.{LayoutChange}
-use Rattle.grid_types.specs.declared.layout_change.LayoutChange.TheVariants as note
-use Rattle.grid_types.specs.declared.shape.Shape.{Shape}
-use Rattle.grid_types.specs.declared.update.Update.{Update}
-use Rattle.grid_types.specs.Regions.{contains, IsRegion}
-use Rattle.grid_types.specs.Keys.{IsKey}
-use Rattle.grid_model.specs.Lists.{product, is_among}
-use Rattle.grid_model.specs.Scales.{is_scale, is_drawn, scale_of, interval, intervals, refined_at}
-use Rattle.grid_model.specs.Cells.{dims, corner, all_cells, cell_index, image_of, InCellBox}
+use Rattle.std.specs.Option.{option_map_or}
+use Rattle.grid_types.specs.Regions.{contains}
+use Rattle.grid_model.specs.Lists.{product}
+use Rattle.grid_model.specs.Cells.{dims, corner, all_cells, cell_index}
 use Rattle.grid_model.specs.ScaleLaws.{IsCell}
-use Rattle.grid_model.specs.Tables.{Table, effect}
-use Rattle.grid_model.specs.Layouts.{BucketBox, Layout, box, holder, Apart, IsSound, IsDrawn, number_at, directory, directory_part}
-use Rattle.grid_model.specs.Notes.{right_of, scales_after, split, joined, together, after_note_at}
+use Rattle.grid_model.specs.Layouts.{BucketBox, Layout, box, Apart, number_at, directory, directory_part}
 use Rattle.grid_model.proofs.CellLaws.{have-indices}
-use Rattle.grid_model.proofs.LowestKeys.{corner-long, corner-number}
 use Rattle.directory_pages.specs.CellBoxes.{cells_on}
 use Rattle.directory_changes.specs.Changes.{dims_after}
 use Rattle.directory_changes.specs.declared.change.DirectoryChange.{DirectoryChange}
-use Rattle.history_pages.proofs.Names.{Has, has-holder}
+use Rattle.history_pages.proofs.Names.{has-holder}
 use Rattle.shadow_directory.specs.Directories.{part_of, source_of, Names, bucket_of, IsPartAfter}
 use Rattle.shadow_directory.proofs.Spelled.{length-part, part-cell}
 

@@ -1,5 +1,5 @@
 -- What was written begins as before, along several calls.
-use Rattle.std.proofs.Common.{◌≡◌, ◌≤◌, ◌+◌, ℕ, List, [], ◌∷◌, ◌++◌, length, take, map, refl, sym, ap, ◌∙◌, arith, append_assoc, length-append, zero, suc}
+use Rattle.std.proofs.Common.{◌≡◌, ◌≤◌, ◌+◌, ℕ, List, [], ◌∷◌, ◌++◌, length, take, map, refl, sym, ap, ◌∙◌, arith, append_assoc, length-append, suc}
 use Rattle.std.proofs.lemmas.List.{take-append-le, length-map, length-take, append-nil, map-append}
 use Rattle.grid_types.specs.declared.owner.Owner.{Owner}
 use Rattle.shadow_directory.specs.Pages.{BeganFor}

@@ -1,5 +1,5 @@
 -- The names of the cells after a cut.
-use Rattle.std.proofs.Common.{◌≡◌, ◌≢◌, ◌<◌, ◌≤◌, ◌^◌, ◌⊎◌, inl, inr, ℕ, Bool, true, false, cond, ◌&&◌, T, List, length, slice_index, slice_set, Option, Some, None, IsTrue, IsSome, refl, sym, ap, ◌∙◌, subst, arith, true≢false, nat_cmp, nat_lt, nat_le, lt-ltb, ltb-false, ltb-true, le-leb}
+use Rattle.std.proofs.Common.{◌≡◌, ◌≢◌, ◌<◌, ◌≤◌, ◌^◌, ◌⊎◌, inl, inr, ℕ, Bool, true, false, cond, T, List, length, slice_index, slice_set, Option, Some, None, IsTrue, IsSome, refl, sym, ap, ◌∙◌, subst, arith, true≢false, nat_cmp, nat_lt, nat_le, ltb-false, le-leb}
 use Rattle.std.proofs.lemmas.Bool.{cases_eq}
 use Rattle.std.proofs.lemmas.List.{length-map, length-set, get_or-set_same, get_or-set_other}
 use Rattle.std.specs.FinMap.Entries.{is_sorted}
@@ -9,9 +9,8 @@ use Rattle.grid_types.specs.declared.shape.Shape.{Shape}
 use Rattle.grid_types.specs.Regions.{contains, IsRegion}
 use Rattle.grid_types.specs.Keys.{IsKey}
 use Rattle.grid_types.proofs.Numbers.{both}
-use Rattle.grid_model.specs.Lists.{is_among}
 use Rattle.grid_model.specs.Scales.{is_scale, is_drawn, scale_of, interval, intervals, refined_at}
-use Rattle.grid_model.specs.Cells.{dims, corner, image_of, InCellBox}
+use Rattle.grid_model.specs.Cells.{dims, corner, InCellBox}
 use Rattle.grid_model.specs.ScaleLaws.{IsCell}
 use Rattle.grid_model.specs.Tables.{Table}
 use Rattle.grid_model.specs.Layouts.{BucketBox, Layout, box, holder, Apart, IsSound, IsDrawn, number_at}
@@ -20,15 +19,14 @@ use Rattle.grid_model.proofs.Boxes.{one-box, some-not-none}
 use Rattle.grid_model.proofs.CutBoxes.{box-right, box-left, box-other, split-numbered, split-apart}
 use Rattle.grid_model.proofs.CutRegions.{left-contains, right-contains}
 use Rattle.grid_types.proofs.Parted.{up-to-high}
-use Rattle.grid_model.proofs.CutScales.{CutsScale, AreScales, AreAfter, cut-scales, drawn-above}
+use Rattle.grid_model.proofs.CutScales.{CutsScale, AreAfter, cut-scales, drawn-above}
 use Rattle.grid_model.proofs.Holders.{holder-box}
 use Rattle.grid_model.proofs.LowestKeys.{corner-long, corner-number}
 use Rattle.grid_model.proofs.ScaleLaws.{parts-numbers}
 use Rattle.grid_cells.specs.Laws.{IsRefinement, IsDrawnLayout}
 use Rattle.grid_cells.proofs.Images.{image-is-cell}
 use Rattle.grid_cells.proofs.Names.{names-stay}
-use Rattle.directory_changes.specs.Changes.{cell_box, grown}
-use Rattle.directory_changes.specs.declared.change.DirectoryChange.{DirectoryChange}
+use Rattle.directory_changes.specs.Changes.{cell_box}
 use Rattle.directory_changes.specs.declared.change.DirectoryChange.TheVariants.{Patch, Grow}
 use Rattle.directory_changes.proofs.Growing.{dims-refined}
 use Rattle.history_pages.proofs.Cutting.{CutsBox, scales-of-split, scales-stay}

@@ -1,15 +1,13 @@
 -- What several calls on the pages of a change leave, one after the other.
-use Rattle.std.proofs.Common.{◌≡◌, ◌<◌, ◌≤◌, ℕ, List, Option, Some, None, sym, ◌∙◌, arith, refl}
+use Rattle.std.proofs.Common.{◌≤◌, ℕ, List, Option, None, sym, ◌∙◌, arith, refl}
 use Rattle.std.specs.Prelude.{Result, IfErr}
 use Rattle.std.proofs.lemmas.Result.{IfErr-weaker}
-use Rattle.grid_types.specs.declared.owner.Owner.{Owner}
 use Rattle.grid_types.specs.declared.refusal.Refusal.{Refusal}
 use Rattle.grid_types.specs.declared.refusal.Refusal.TheVariants as why
-use Rattle.disk_trait.specs.Causes.{Rose}
 use Rattle.disk_trait.proofs.Calls.{rose_within}
 use Rattle.shadow_directory.specs.declared.pages.ChangePages.{Ghosts}
 use Rattle.shadow_directory.specs.Pages.{LeavesPages}
-use Rattle.shadow_directory.specs.Calls.{Keeps, OnlyReads, Tells, IsDamagedPart, IsCause, Holds}
+use Rattle.shadow_directory.specs.Calls.{Keeps, OnlyReads, Tells, IsCause, Holds}
 
 module _ {P : Type 0} {g : Ghosts P} where
   -- no call

@@ -1,16 +1,16 @@
 -- The names of the cells after a merge.
-use Rattle.std.proofs.Common.{◌≡◌, ◌≢◌, ◌<◌, ◌≤◌, ◌⊎◌, inl, inr, ℕ, Bool, true, false, ◌||◌, min, max, T, List, length, Option, Some, None, IsTrue, IsSome, refl, sym, ap, ◌∙◌, subst, arith, true≢false, nat_cmp}
+use Rattle.std.proofs.Common.{◌≡◌, ◌≢◌, ◌<◌, ◌⊎◌, inl, inr, ℕ, Bool, true, false, ◌||◌, min, max, List, length, Option, Some, None, IsSome, refl, sym, ap, ◌∙◌, subst, arith, true≢false}
 use Rattle.std.proofs.lemmas.Bool.{cases_eq, or_left, or_right}
 use Rattle.std.proofs.lemmas.List.{length-map}
 use Rattle.std.specs.Option.{option_map_or, unwrap_or}
 use Rattle.grid_types.specs.declared.shape.Shape.{Shape}
-use Rattle.grid_types.specs.Regions.{contains, IsRegion}
+use Rattle.grid_types.specs.Regions.{contains}
 use Rattle.grid_types.specs.Keys.{IsKey}
 use Rattle.grid_model.specs.Scales.{is_scale, scale_of, intervals}
 use Rattle.grid_model.specs.Cells.{dims, corner, InCellBox}
 use Rattle.grid_model.specs.ScaleLaws.{IsCell}
 use Rattle.grid_model.specs.Tables.{Table}
-use Rattle.grid_model.specs.Layouts.{BucketBox, Layout, box, holder, IsSound, IsDrawn, number_at}
+use Rattle.grid_model.specs.Layouts.{BucketBox, Layout, box, holder, IsSound, number_at}
 use Rattle.grid_model.specs.LayoutLaws.{IsMerge}
 use Rattle.grid_model.specs.Notes.{together, joined}
 use Rattle.grid_model.proofs.Boxes.{one-box}

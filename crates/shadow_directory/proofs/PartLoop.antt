@@ -1,6 +1,5 @@
 -- The loop over the parts that a change renews.
-use Rattle.std.proofs.Common.{◌≡◌, ◌<◌, ◌≤◌, ◌+◌, ◌++◌, ◌∷◌, [], ℕ, List, Bool, true, false, filter, length, IsTrue, Option, sym, ap, ◌∙◌, subst, arith, length-append}
-use Rattle.grid_types.specs.declared.owner.Owner.{Owner}
+use Rattle.std.proofs.Common.{◌≡◌, ◌+◌, ◌++◌, ◌∷◌, [], ℕ, List, true, false, filter, length, Option, sym, ap, ◌∙◌, subst, arith, length-append}
 use Rattle.grid_types.specs.declared.owner.Owner.TheVariants.{Part}
 use Rattle.grid_model.specs.Lists.{below, is_among}
 use Rattle.grid_model.specs.Spellings.{directory_spelling}

@@ -1,17 +1,16 @@
 -- The cells of a part after a change, as the patch of those that were read or gathered.
-use Rattle.std.proofs.Common.{◌≡◌, ◌<◌, ◌≤◌, ◌+◌, ◌*◌, ◌/◌, ◌%◌, ◌^◌, ◌⊎◌, inl, inr, ℕ, List, [], map, length, slice_index, get_or, slice_index_or, Option, Some, refl, sym, ap, ◌∙◌, subst, arith}
+use Rattle.std.proofs.Common.{◌≡◌, ◌<◌, ◌≤◌, ◌+◌, ◌*◌, ◌/◌, ◌%◌, ◌^◌, ◌⊎◌, inl, inr, ℕ, List, [], map, length, slice_index, slice_index_or, Option, Some, sym, ap, ◌∙◌, subst, arith}
 use Rattle.std.proofs.lemmas.Bool.{cases_lt}
 use Rattle.std.proofs.lemmas.Option.{slice_get-get_or}
 use Rattle.grid_types.specs.declared.cell_box.CellBox.{CellBox}
 use Rattle.grid_types.specs.declared.owner.Owner.{Owner}
 use Rattle.grid_types.specs.declared.owner.Owner.TheVariants.{Part}
 use Rattle.grid_model.specs.Lists.{below, choices, product}
-use Rattle.grid_model.specs.Cells.{cell_index, image_of, InCellBox}
+use Rattle.grid_model.specs.Cells.{cell_index}
 use Rattle.grid_model.specs.ScaleLaws.{IsCell}
-use Rattle.grid_model.specs.Spellings.{directory_spelling}
 use Rattle.grid_model.proofs.Indices.{cells-counted, index-there}
 use Rattle.directory_pages.specs.Spelling.{bucket_in}
-use Rattle.directory_pages.specs.CellBoxes.{cells_on, HasIndex, IsPatched}
+use Rattle.directory_pages.specs.CellBoxes.{cells_on, IsPatched}
 use Rattle.directory_changes.specs.Changes.{grown}
 use Rattle.directory_changes.specs.declared.change.DirectoryChange.TheVariants.{Patch, Grow}
 use Rattle.shadow_directory.specs.Directories.{part_of, SpellDirectory, IsPartAfter}

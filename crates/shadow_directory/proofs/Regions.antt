@@ -1,10 +1,10 @@
 -- The cells of a region whose bounds are ends of intervals are those whose lowest key it has.
-use Rattle.std.proofs.Common.{◌≡◌, ◌<◌, ◌≤◌, ◌⊎◌, inl, inr, ℕ, true, List, length, slice_index, nat_le, IsTrue, refl, sym, ap, ◌∙◌, arith}
+use Rattle.std.proofs.Common.{◌≡◌, ◌<◌, ◌≤◌, ◌⊎◌, inl, inr, ℕ, true, List, length, slice_index, nat_le, sym, ap, ◌∙◌, arith}
 use Rattle.std.proofs.lemmas.Bool.{cases_lt}
 use Rattle.std.proofs.lemmas.List.{length-map}
 use lib.Pointwise.{pointwise}
 use Rattle.grid_types.specs.Regions.{contains, IsRegion}
-use Rattle.grid_types.proofs.Numbers.{both, first, second, all-at-most, each-at-most, as-long}
+use Rattle.grid_types.proofs.Numbers.{both, first, second, all-at-most, each-at-most}
 use Rattle.grid_model.specs.Lists.{is_among}
 use Rattle.grid_model.specs.Scales.{is_scale, interval, intervals, lows, highs, scale_of}
 use Rattle.grid_model.specs.Cells.{dims, cell_of, corner, InCellBox}

@@ -1,20 +1,17 @@
 -- What a part's page says where it is told.
-use Rattle.std.proofs.Common.{◌≡◌, ◌<◌, ◌≤◌, ◌+◌, ◌-◌, ◌*◌, ◌/◌, ◌%◌, ◌^◌, ◌⊎◌, inl, inr, ℕ, List, min, length, take, drop, slice_index, get_or, Option, Some, refl, sym, ap, ◌∙◌, subst, arith}
+use Rattle.std.proofs.Common.{◌≡◌, ◌<◌, ◌≤◌, ◌+◌, ◌-◌, ◌*◌, ◌/◌, ◌%◌, ◌^◌, ◌⊎◌, inl, inr, ℕ, List, min, length, drop, slice_index, Option, Some, sym, ap, ◌∙◌, arith}
 use Rattle.std.proofs.lemmas.Bool.{cases_lt}
 use Rattle.std.proofs.lemmas.List.{length-take, length-drop, get_or-take, get_or-drop, get_or_past}
 use Rattle.grid_types.specs.declared.owner.Owner.{Owner}
 use Rattle.grid_types.specs.declared.owner.Owner.TheVariants.{Part}
 use Rattle.grid_types.specs.declared.sizes.TheConstants.{WORDS_ON_PAGE}
-use Rattle.grid_types.specs.Shapes.{word_pages}
 use Rattle.grid_model.specs.Lists.{product}
 use Rattle.grid_model.specs.Spellings.{directory_spelling}
 use Rattle.grid_model.proofs.Boxes.{one-value}
 use Rattle.directory_pages.specs.Spelling.{SpellsPart, IsDirectoryPage, bucket_in}
 use Rattle.directory_pages.specs.CellBoxes.{cells_on}
 use Rattle.directory_pages.proofs.Standing.{part_there}
-use Rattle.shadow_directory.specs.declared.pages.ChangePages.{Ghosts}
 use Rattle.shadow_directory.specs.Directories.{part_of, SpellDirectory}
-use Rattle.shadow_directory.specs.Calls.{Tells}
 
 -- a part has as many cells as are left for it
 pub length-part : (ns D : List ℕ) (p : ℕ) → length D ≡ product ns → length (part_of D p) ≡ cells_on ns p

@@ -11,9 +11,9 @@ use Rattle.grid_types.specs.declared.owner.Owner.TheVariants.{Bucket, Part}
 use Rattle.grid_types.specs.declared.shape.Shape.{Shape}
 use Rattle.grid_types.specs.declared.sizes.TheConstants.{FEWEST_PAGES, MOST_PAGES, MOST_SLOTS}
 use Rattle.grid_types.specs.declared.update.Update.{Update}
-use Rattle.grid_types.specs.Shapes.{is_shape, is_from_to, has_lawful_buckets, has_lawful_pages, has_lawful_bounds, word_pages}
+use Rattle.grid_types.specs.Shapes.{is_shape, is_from_to, has_lawful_buckets, has_lawful_pages, has_lawful_bounds}
 use Rattle.grid_types.proofs.Numbers.{first, second}
-use Rattle.grid_model.specs.Lists.{product, is_among}
+use Rattle.grid_model.specs.Lists.{is_among}
 use Rattle.grid_model.specs.Scales.{scale_of, interval}
 use Rattle.grid_model.specs.Cells.{dims, parts, corner, all_cells}
 use Rattle.grid_model.specs.Tables.{Table, effect}
@@ -30,7 +30,7 @@ use Rattle.history_pages.proofs.Cutting.{CutsBox, lawful-cut}
 use Rattle.history_pages.proofs.Joining.{JoinsBox, lawful-join, after-join}
 use Rattle.directory_changes.specs.Changes.{cell_box, directory_change, parts_changed}
 use Rattle.directory_changes.specs.declared.change.DirectoryChange.{DirectoryChange}
-use Rattle.directory_changes.specs.declared.change.DirectoryChange.TheVariants.{Nothing, Patch, Grow}
+use Rattle.directory_changes.specs.declared.change.DirectoryChange.TheVariants.{Patch, Grow}
 use Rattle.directory_changes.proofs.Lawful.{lawful-scale}
 use Rattle.directory_changes.proofs.Renewed.{same-parts}
 use Rattle.history_pages.proofs.Renewed.{new-page}
@@ -38,7 +38,7 @@ use Rattle.shadow_directory.specs.declared.buckets.NewBucket.{NewBucket}
 use Rattle.shadow_directory.specs.NewPages.{bucket_pages, part_pages, new_page, new_pages}
 use Rattle.shadow_directory.specs.declared.pages.ChangePages.{Ghosts}
 use Rattle.shadow_directory.specs.Calls.{Tells, TellsPages}
-use Rattle.shadow_directory.specs.Directories.{IsPartAfter, AreAfter, SpellDirectory, part_of}
+use Rattle.shadow_directory.specs.Directories.{IsPartAfter, AreAfter, SpellDirectory}
 use Rattle.shadow_directory.proofs.After.{NamesAfter, part-after, part-is, directory-long}
 use Rattle.shadow_directory.proofs.CutNames.{names-patched, names-grown}
 use Rattle.shadow_directory.proofs.MergeNames.{names-merged}

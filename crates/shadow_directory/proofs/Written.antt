@@ -1,16 +1,15 @@
 -- What was written, one page more each time.
-use Rattle.std.proofs.Common.{◌≡◌, ◌<◌, ◌≤◌, ◌+◌, ◌-◌, ◌*◌, ℕ, zero, suc, Bool, true, false, cond, List, [], ◌∷◌, ◌++◌, length, filter, map, take, drop, IsTrue, refl, sym, ap, ◌∙◌, subst, arith, append_assoc, length-append, true≢false}
+use Rattle.std.proofs.Common.{◌≡◌, ◌<◌, ◌≤◌, ◌+◌, ◌-◌, ℕ, zero, suc, Bool, true, false, cond, List, [], ◌∷◌, ◌++◌, length, filter, map, IsTrue, sym, ap, ◌∙◌, arith, append_assoc, length-append, true≢false}
 use Rattle.std.specs.List.{range_with_len}
 use Rattle.std.proofs.lemmas.List.{map-append, append-nil}
 use Rattle.std.proofs.lemmas.List.Elements.{filter-append}
 use Rattle.grid_types.specs.declared.owner.Owner.{Owner}
 use Rattle.grid_types.specs.declared.owner.Owner.TheVariants.{Part}
-use Rattle.grid_types.specs.Shapes.{word_pages}
-use Rattle.grid_model.specs.Lists.{below, product, is_among}
+use Rattle.grid_model.specs.Lists.{below, is_among}
 use Rattle.grid_model.specs.Spellings.{directory_spelling}
-use Rattle.directory_changes.specs.Changes.{parts_after, parts_changed}
+use Rattle.directory_changes.specs.Changes.{parts_changed}
 use Rattle.directory_changes.specs.declared.change.DirectoryChange.{DirectoryChange}
-use Rattle.directory_changes.specs.declared.change.DirectoryChange.TheVariants.{Nothing, Patch, Grow}
+use Rattle.directory_changes.specs.declared.change.DirectoryChange.TheVariants.{Nothing}
 use Rattle.directory_changes.proofs.Counted.{filter-more}
 use Rattle.shadow_directory.specs.Pages.{BeganFor}
 use Rattle.shadow_directory.specs.Calls.{WrotePart}

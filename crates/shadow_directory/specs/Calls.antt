@@ -13,7 +13,6 @@ use Rattle.disk_trait.specs.Causes.{Rose}
 use Rattle.directory_pages.specs.Spelling.{IsDirectoryPage}
 use Rattle.directory_pages.specs.CellBoxes.{cells_on}
 use Rattle.shadow_directory.specs.declared.pages.ChangePages.{Ghosts}
-use Rattle.shadow_directory.specs.Pages.{BeganFor}
 use Rattle.shadow_directory.specs.Directories.{SpellDirectory}
 
 -- what each call leaves: what is told of the pages, the number of parts, where each part lies, all that has to stay, and that no count falls

@@ -1,6 +1,5 @@
 -- A directory as the list of its cells' buckets, its parts, and what a change makes of them.
-use Rattle.std.specs.Prelude.{◌≡◌, ◌<◌, ◌≤◌, ◌^◌, ◌+◌, ◌*◌, ℕ, List, take, drop, length, slice_index, Option, Some, IsTrue}
-use Rattle.grid_types.specs.declared.cell_box.CellBox.{CellBox}
+use Rattle.std.specs.Prelude.{◌≡◌, ◌<◌, ◌^◌, ◌+◌, ◌*◌, ℕ, List, take, drop, length, slice_index, Option, Some, IsTrue}
 use Rattle.grid_types.specs.declared.owner.Owner.{Owner}
 use Rattle.grid_types.specs.declared.owner.Owner.TheVariants.{Part}
 use Rattle.grid_types.specs.declared.sizes.TheConstants.{WORDS_ON_PAGE}

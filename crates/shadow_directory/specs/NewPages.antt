@@ -4,19 +4,13 @@ use Rattle.std.specs.Option.{unwrap_or}
 use Rattle.grid_types.specs.declared.layout_change.LayoutChange.{LayoutChange}
 use Rattle.grid_types.specs.declared.owner.Owner.{Owner}
 use Rattle.grid_types.specs.declared.owner.Owner.TheVariants.{Bucket, Part}
-use Rattle.grid_types.specs.declared.shape.Shape.{Shape}
 use Rattle.grid_types.specs.declared.update.Update.{Update}
-use Rattle.grid_model.specs.Cells.{dims}
 use Rattle.grid_model.specs.Tables.{Table}
 use Rattle.grid_model.specs.Layouts.{BucketBox, Layout}
 use Rattle.grid_model.specs.Lone.{Owners, renewed}
 use Rattle.grid_model.specs.Spellings.{directory_spelling}
-use Rattle.history_pages.specs.OwnerPages.{owner_page}
-use Rattle.history_pages.specs.PageLaws.{IsChange, page_after}
-use Rattle.directory_changes.specs.Changes.{directory_change}
-use Rattle.directory_changes.specs.declared.change.DirectoryChange.{DirectoryChange}
+use Rattle.history_pages.specs.PageLaws.{page_after}
 use Rattle.shadow_directory.specs.declared.buckets.NewBucket.{NewBucket}
-use Rattle.shadow_directory.specs.declared.pages.ChangePages.{Ghosts}
 
 -- owners in the order in which they are written: buckets before parts
 abbrev pub in_order : Owners → List Owner

@@ -1,4 +1,4 @@
-use Rattle.std.proofs.Common.{◌∙◌, sym, ap, ◌/◌, eqb-true, eq-eqb, true≢false}
+use Rattle.std.proofs.Common.{◌∙◌, sym, ◌/◌, eqb-true, eq-eqb, true≢false}
 use Rattle.directory_changes.proofs.Walked.{held, holds-at, holds-none, upright-where}
 use Rattle.directory_changes.proofs.boxes.holds_cell.Goals as goal
 

@@ -1,4 +1,4 @@
-use Rattle.std.proofs.Common.{◌<◌, ◌-◌, ◌+◌, arith, subst, ◌≡◌, ℕ, Option, length, slice_index}
+use Rattle.std.proofs.Common.{◌<◌, ◌-◌, arith, subst, ◌≡◌, ℕ, length, slice_index}
 use Rattle.directory_changes.proofs.Walked.{Walked, corners, walk-begins, one-back, inside, room, lowest-short, least-short, lowest-fits, size-fits, walk-on, walked-all}
 use Rattle.directory_changes.proofs.boxes.least_from.Goals as goal
 

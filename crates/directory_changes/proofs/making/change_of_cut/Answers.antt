@@ -1,4 +1,4 @@
-use Rattle.std.proofs.Common.{◌≡◌, ◌<◌, ◌∙◌, ap, sym, arith, subst, List, ℕ, IsTrue, length}
+use Rattle.std.proofs.Common.{◌∙◌, ap, arith, subst, List, ℕ, IsTrue}
 use Rattle.std.proofs.lemmas.List.{length-map}
 use Rattle.grid_model.specs.Scales.{is_scale, interval}
 use Rattle.linear_scales.specs.Limited.{scales_of}

@@ -1,4 +1,4 @@
-use Rattle.std.proofs.Common.{◌≡◌, ◌≤◌, ◌+◌, ◌*◌, ◌/◌, ◌∙◌, ap, arith, slice_index, ℕ}
+use Rattle.std.proofs.Common.{◌+◌, ◌*◌, ◌/◌, ◌∙◌, ap, arith, slice_index, ℕ}
 use Rattle.directory_changes.proofs.Counted.{few-intervals}
 use Rattle.directory_changes.proofs.Growing.{cells-grown}
 use Rattle.directory_changes.proofs.parts.cells_grown.Goals as goal

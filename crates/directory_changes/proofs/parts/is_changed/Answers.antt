@@ -1,10 +1,9 @@
-use Rattle.std.proofs.Common.{◌≡◌, ◌<◌, ◌≤◌, ◌+◌, ◌∙◌, ℕ, Bool, List, true, false, sym, ap, arith, subst, length, slice_index, refl}
+use Rattle.std.proofs.Common.{◌<◌, ◌∙◌, sym, ap, arith, subst}
 use Rattle.grid_types.specs.Shapes.{word_pages}
 use Rattle.grid_model.specs.Lists.{product, is_among}
 use Rattle.grid_model.proofs.Counts.{range-among}
 use Rattle.directory_changes.specs.Changes.{IsChangeOf, HasCorners, parts_after, parts_changed, parts_of_box, grown}
 use Rattle.directory_changes.specs.declared.change.DirectoryChange.{DirectoryChange}
-use Rattle.directory_changes.specs.declared.change.DirectoryChange.TheVariants.{Nothing, Patch, Grow}
 use Rattle.directory_changes.proofs.Among.{part-holds, holds-part}
 use Rattle.directory_changes.proofs.Truths.{same-truth}
 use Rattle.directory_changes.proofs.parts.is_changed.Goals as goal

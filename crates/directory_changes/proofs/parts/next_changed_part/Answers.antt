@@ -1,4 +1,4 @@
-use Rattle.std.proofs.Common.{inl, inr, arith, ◌∙◌, sym}
+use Rattle.std.proofs.Common.{inl, inr, arith}
 use Rattle.std.proofs.lemmas.Bool.{cases_lt}
 use Rattle.directory_changes.proofs.Counted.{none-past}
 use Rattle.directory_changes.proofs.parts.next_changed_part.Goals as goal

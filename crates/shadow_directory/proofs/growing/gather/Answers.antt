@@ -1,4 +1,4 @@
-use Rattle.std.proofs.Common.{◌∙◌, sym, arith, ℕ, slice_index, ◌/◌}
+use Rattle.std.proofs.Common.{◌∙◌, arith}
 use Rattle.shadow_directory.specs.Calls.{IsFault, IsCause}
 use Rattle.shadow_directory.proofs.Faults.{err-goes}
 use Rattle.shadow_directory.proofs.Keeping.{tells-on, reads-on, cause-behind}

@@ -1,8 +1,8 @@
-use Rattle.std.proofs.Common.{◌≡◌, ◌<◌, ◌≤◌, ◌∙◌, sym, ap, arith, subst, ℕ, List, ◌∷◌, ◌++◌, [], take, length, slice_index}
+use Rattle.std.proofs.Common.{◌≡◌, ◌≤◌, ◌∙◌, arith, subst, ℕ, ◌∷◌, ◌++◌, [], take, length}
 use Rattle.std.proofs.lemmas.List.{get_or-take, length-take}
 use Rattle.std.proofs.lemmas.Result.{on_ok_weaker}
 use Rattle.grid_types.specs.declared.owner.Owner.TheVariants.{Part}
-use Rattle.directory_pages.specs.CellBoxes.{cells_on, IsPatched}
+use Rattle.directory_pages.specs.CellBoxes.{cells_on}
 use Rattle.shadow_directory.specs.Calls.{IsFault, Holds}
 use Rattle.shadow_directory.specs.Images.{AreImages}
 use Rattle.shadow_directory.proofs.Faults.{err-goes, ok-there}

@@ -1,4 +1,3 @@
-use Rattle.std.proofs.Common.{arith}
 use Rattle.shadow_directory.proofs.Imaged.{next-more}
 use Rattle.shadow_directory.proofs.images.next_needed.Goals as goal
 

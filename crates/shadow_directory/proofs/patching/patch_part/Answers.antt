@@ -1,6 +1,5 @@
-use Rattle.std.proofs.Common.{◌≡◌, ◌∙◌, sym, ap, arith, ℕ, List, ◌∷◌, ◌++◌, []}
+use Rattle.std.proofs.Common.{◌∙◌, arith, ◌∷◌, ◌++◌, []}
 use Rattle.std.proofs.lemmas.Result.{on_ok_weaker}
-use Rattle.grid_types.specs.declared.owner.Owner.{Owner}
 use Rattle.grid_types.specs.declared.owner.Owner.TheVariants.{Part}
 use Rattle.directory_pages.specs.Spelling.{SpellsPart}
 use Rattle.shadow_directory.specs.Calls.{IsFault}

@@ -1,6 +1,6 @@
-use Rattle.std.proofs.Common.{◌≡◌, ◌<◌, ◌*◌, ◌∙◌, sym, ap, arith, subst, ℕ, rules}
+use Rattle.std.proofs.Common.{◌<◌, ap, arith, subst, rules}
 use Rattle.grid_model.specs.Lists.{product}
-use Rattle.directory_changes.specs.Changes.{IsChangeOf, IsGrowth, parts_after}
+use Rattle.directory_changes.specs.Changes.{IsChangeOf, parts_after}
 use Rattle.directory_changes.specs.declared.change.DirectoryChange.{DirectoryChange}
 use Rattle.directory_changes.proofs.Counted.{changed-below}
 use Rattle.shadow_directory.specs.Directories.{IsPartAfter}
