@@ -13,7 +13,7 @@ use Rattle.grid_model.specs.Images.{logged_effect, layout_after}
 use Rattle.grid_model.specs.Roots.{WholeRoot}
 use Rattle.file_images.specs.Kept.{GateRule, Counting, Barred, PlacedBatch, NextSlot, Shut, Flying, InDoubt, Kept, OtherHeader, on_half, used}
 use Rattle.file_images.specs.Steps.{ruled, with_placed, with_next_shut, with_flying}
-use Rattle.file_images.specs.Leads.{Meaning, behind, updates_in, RootHolds, CountsOn, reach, IsKnown, MayFollow, RootLeads}
+use Rattle.file_images.specs.Leads.{Standing, behind, updates_in, RootHolds, CountsOn, reach, IsKnown, MayFollow, RootLeads}
 use Rattle.file_images.proofs.Halves.{half_added, half_kept, get_added, get_left, get_last}
 use Rattle.file_images.proofs.Elements.{Among, here, there, among_left, among_right, from_append, among_these, contains_it}
 use Rattle.file_images.proofs.Chains.{chain_more}
@@ -67,7 +67,7 @@ is_flying (InDoubt b) = false
 pub shut_not_flying : {K : ℕ} → ◌≡◌ {A = NextSlot K} Shut Flying → ⊥
 shut_not_flying e = true≢false (sym (ap is_flying e))
 
-module _ {K : ℕ} (k : Kept K) (w : WholeRoot) (m : Meaning K) (c : RootLeads k w m) where
+module _ {K : ℕ} (k : Kept K) (w : WholeRoot) (m : Standing K) (c : RootLeads k w m) where
   -- where no batch is in doubt on the next slot
   leads_undoubted : (n : NextSlot K) → ((d : LoggedBatch K) → n ≡ InDoubt d → ⊥) → reach n m.place ≡ m.place → RootLeads (record k { next = n }) w m
   leads_undoubted n none near = record {

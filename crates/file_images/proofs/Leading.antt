@@ -12,7 +12,7 @@ use Rattle.grid_model.proofs.Boxes.{some-not-none, one-value}
 use Rattle.grid_model.proofs.Members.{contains-none}
 use Rattle.file_images.specs.Kept.{Counting, PlacedBatch, NextSlot, Shut, Flying, InDoubt, Kept, ShutHeader, LooseHeader, MayBeNewest, on_half}
 use Rattle.file_images.specs.Steps.{loosened, none_used, first_by, second_by, with_doubt, with_closed, with_tried, with_root, with_loose, with_shut, with_turned, other_half}
-use Rattle.file_images.specs.Leads.{Meaning, updates_in, CountsOn, reach, IsKnown, MayFollow, RootLeads, Leads}
+use Rattle.file_images.specs.Leads.{Standing, updates_in, CountsOn, reach, IsKnown, MayFollow, RootLeads, Leads}
 use Rattle.file_images.specs.LeadingLaws.{IsAhead, BeginsSession, IsBehind, NoneBeyond, MayFollowEach}
 use Rattle.file_images.proofs.Elements.{from_append, among_these, contains_it}
 use Rattle.file_images.proofs.Chains.{chain_up, chain_above, chain_below}
@@ -20,23 +20,23 @@ use Rattle.file_images.proofs.Clearing.{by_here, by_other, from_loose}
 use Rattle.file_images.proofs.Histories.{holds_over, follows_over, leads_over, shut_no_doubt, reach_up}
 
 -- a root that was tried leads where the others do, and so does one that may be the newest once it is the root
-pub leads_tried : {K : ℕ} (k : Kept K) (m : Meaning K) (new : WholeRoot) → RootLeads k new m → Leads k m → Leads (with_tried k (Some new)) m
+pub leads_tried : {K : ℕ} (k : Kept K) (m : Standing K) (new : WholeRoot) → RootLeads k new m → Leads k m → Leads (with_tried k (Some new)) m
 leads_tried k m new c leads w (inl e) = leads_over k w m (leads w (inl e)) k.root (LooseHeader (Some new)) k.half
 leads_tried k m new c leads w (inr e) = leads_over k w m (subst (λ (v : WholeRoot). RootLeads k v m) (one-value new w e) c) k.root (LooseHeader (Some new)) k.half
 
-pub leads_closed : {K : ℕ} (k : Kept K) (m : Meaning K) → Leads k m → Leads (with_closed k) m
+pub leads_closed : {K : ℕ} (k : Kept K) (m : Standing K) → Leads k m → Leads (with_closed k) m
 leads_closed k m leads w (inl e) = leads_over k w m (leads w (inl e)) k.root ShutHeader k.half
 leads_closed k m leads w (inr e) = absurd e
 
-pub leads_rooted : {K : ℕ} (k : Kept K) (m : Meaning K) (new : WholeRoot) → MayBeNewest k new → Leads k m → Leads (with_root k new) m
+pub leads_rooted : {K : ℕ} (k : Kept K) (m : Standing K) (new : WholeRoot) → MayBeNewest k new → Leads k m → Leads (with_root k new) m
 leads_rooted k m new may leads w (inl e) = subst (λ (v : WholeRoot). RootLeads (with_root k new) v m) (sym e) (leads_over k new m (leads new may) new (LooseHeader None) k.half)
 leads_rooted k m new may leads w (inr e) = absurd (some-not-none w (sym e))
 
-pub leads_turned : {K : ℕ} (k : Kept K) (m : Meaning K) → Leads k m → Leads (with_turned k) m
+pub leads_turned : {K : ℕ} (k : Kept K) (m : Standing K) → Leads k m → Leads (with_turned k) m
 leads_turned k m leads w newest = leads_over k w m (leads w newest) k.root k.other (other_half k.half)
 
--- a root ahead of one that leads to a meaning leads there too
-module _ {K : ℕ} (k : Kept K) (w : WholeRoot) (m : Meaning K) (new : WholeRoot) (c : RootLeads k w m) (is : IsAhead k w m c new) where
+-- a root ahead of one that leads to a standing leads there too
+module _ {K : ℕ} (k : Kept K) (w : WholeRoot) (m : Standing K) (new : WholeRoot) (c : RootLeads k w m) (is : IsAhead k w m c new) where
   all_updates : updates_in c.taken ≡ updates_in is.before ++ updates_in is.after
   all_updates = ap updates_in is.parted ∙ flat_map-append (λ (b : LoggedBatch K). b.updates) is.before is.after
 
@@ -69,8 +69,8 @@ module _ {K : ℕ} (k : Kept K) (w : WholeRoot) (m : Meaning K) (new : WholeRoot
     doubt = is.doubt;
   }
 
--- a root that begins a session at a meaning leads there
-pub leads_begun : {K : ℕ} (k : Kept K) (m : Meaning K) (new : WholeRoot) → BeginsSession k m new → RootLeads k new m
+-- a root that begins a session at a standing leads there
+pub leads_begun : {K : ℕ} (k : Kept K) (m : Standing K) (new : WholeRoot) → BeginsSession k m new → RootLeads k new m
 unfolding layout_after
 leads_begun {K} k m new is = record {
   layout = m.layout;
@@ -88,7 +88,7 @@ leads_begun {K} k m new is = record {
 }
 
 -- a batch in doubt that may follow leads nowhere else by itself
-module _ {K : ℕ} (k : Kept K) (m : Meaning K) (d : LoggedBatch K) (leads : Leads k m) (shut : k.next ≡ Shut) (none : NoneBeyond k m.place) (follows : MayFollowEach k m leads d) where
+module _ {K : ℕ} (k : Kept K) (m : Standing K) (d : LoggedBatch K) (leads : Leads k m) (shut : k.next ≡ Shut) (none : NoneBeyond k m.place) (follows : MayFollowEach k m leads d) where
   known_farther : (from : ℕ) (taken : List (LoggedBatch K)) (h i : ℕ) (p : PlacedBatch K) → h < 2 → slice_get (on_half k h) i ≡ Some p → IsKnown from taken (reach k.next m.place) p → IsKnown from taken (m.place + length d.updates) p
   known_farther from taken h i p two at (inl barred) = inl barred
   known_farther from taken h i p two at (inr (inl low)) = inr (inl low)
@@ -125,7 +125,7 @@ module _ {K : ℕ} (k : Kept K) (m : Meaning K) (d : LoggedBatch K) (leads : Lea
       }
 
 -- a half whose batches are all behind the newest roots
-module _ {K : ℕ} (k : Kept K) (h : ℕ) (m : Meaning K) (two : h < 2) (behind_all : IsBehind k h) (f : List (PlacedBatch K) → List (PlacedBatch K)) (from : (i : ℕ) (p : PlacedBatch K) → slice_get (f (on_half k h)) i ≡ Some p → (q : PlacedBatch K) × (slice_get (on_half k h) i ≡ Some q) × (p.batch ≡ q.batch)) where
+module _ {K : ℕ} (k : Kept K) (h : ℕ) (m : Standing K) (two : h < 2) (behind_all : IsBehind k h) (f : List (PlacedBatch K) → List (PlacedBatch K)) (from : (i : ℕ) (p : PlacedBatch K) → slice_get (f (on_half k h)) i ≡ Some p → (q : PlacedBatch K) × (slice_get (on_half k h) i ≡ Some q) × (p.batch ≡ q.batch)) where
   abbrev k2 : Kept K
   k2 = record k { first = first_by h f k.first; second = second_by h f k.second }
 
@@ -184,9 +184,9 @@ module _ {K : ℕ} (k : Kept K) (h : ℕ) (m : Meaning K) (two : h < 2) (behind_
   half_leads leads w newest = leads_beside w newest (leads w newest)
 
 -- its gates may be anything
-pub leads_loosened : {K : ℕ} (k : Kept K) (h : ℕ) (m : Meaning K) → h < 2 → IsBehind k h → Leads k m → Leads (with_loose k h) m
+pub leads_loosened : {K : ℕ} (k : Kept K) (h : ℕ) (m : Standing K) → h < 2 → IsBehind k h → Leads k m → Leads (with_loose k h) m
 leads_loosened k h m two behind_all leads = half_leads k h m two behind_all (map loosened) (λ i p at. let q = from_loose (on_half k h) i p at in (q.0, q.1, ap (λ (x : PlacedBatch _). x.batch) q.2)) leads
 
 -- and its slots may all be cleared
-pub leads_cleared : {K : ℕ} (k : Kept K) (h : ℕ) (m : Meaning K) → h < 2 → IsBehind k h → Leads k m → Leads (with_shut k h) m
+pub leads_cleared : {K : ℕ} (k : Kept K) (h : ℕ) (m : Standing K) → h < 2 → IsBehind k h → Leads k m → Leads (with_shut k h) m
 leads_cleared k h m two behind_all leads = half_leads k h m two behind_all none_used (λ i p at. absurd (some-not-none p (sym at))) leads

@@ -18,7 +18,7 @@ pub mod Newest
 pub mod Resolving
 pub mod Found
 pub mod Histories
-pub mod Meanings
+pub mod Standings
 pub mod Settling
 pub mod Covering
 pub mod Leading

@@ -1,4 +1,4 @@
--- An image of a new file shows what a new file keeps, and has its meaning.
+-- An image of a new file shows what a new file keeps, and has its standing.
 use Rattle.std.proofs.Common.{◌≡◌, ◌<◌, ◌≤◌, ◌==◌, inl, inr, ◌+◌, ◌*◌, ◌-◌, ◌/◌, ℕ, zero, suc, Bool, true, false, cond, not, List, [], ◌∷◌, ◌++◌, length, map, filter, slice_index, replicate, All, IsTrue, refl, sym, ap, subst, ◌∙◌, arith}
 use Rattle.std.specs.Prelude.{slice_get, Option, Some, None, nat_lt, take, drop}
 use Rattle.std.specs.Option.{option_map, option_map_or}
@@ -31,12 +31,12 @@ use Rattle.history_pages.specs.OwnerPages.{as_bucket, owner_page, numbered_bucke
 use Rattle.journal_slots.proofs.Frames.{gate_is_byte}
 use Rattle.file_images.specs.Kept.{PlacedBatch, on_half}
 use Rattle.file_images.specs.Shows.{gate_in, Shows}
-use Rattle.file_images.specs.Leads.{HasMeaning, Leads, RootHolds, RootLeads, page_named}
-use Rattle.file_images.specs.NewFiles.{new_fields, new_area, new_root, new_directory, new_bucket, IsNewFile, new_kept, new_meaning}
+use Rattle.file_images.specs.Leads.{HasStanding, Leads, RootHolds, RootLeads, page_named}
+use Rattle.file_images.specs.NewFiles.{new_fields, new_area, new_root, new_directory, new_bucket, IsNewFile, new_kept, new_standing}
 use Rattle.file_images.proofs.PagesApart.{few}
 use Rattle.file_images.proofs.Elements.{Among, here, there, from_range}
 use Rattle.file_images.proofs.Histories.{shut_no_doubt, shut_not_flying}
-use Rattle.file_images.proofs.Meanings.{shows_means}
+use Rattle.file_images.proofs.Standings.{shows_stands}
 
 -- a list of which no element passes
 filter_none : {X : Type 0} (test : X → Bool) (xs : List X) → ((x : X) → Among x xs → test x ≡ false) → filter test xs ≡ []
@@ -175,7 +175,7 @@ module _ (K : ℕ) (s : Shape) (lawful : IsTrue (is_shape s)) (attributes : s.k 
   none_placed zero i p is = absurd (some-not-none p (sym is))
   none_placed (suc h) i p is = absurd (some-not-none p (sym is))
 
-  new_root_leads : RootLeads (new_kept K s) (new_root K s) (new_meaning K)
+  new_root_leads : RootLeads (new_kept K s) (new_root K s) (new_standing K)
   unfolding layout_after
   new_root_leads = record {
     layout = new_layout K;
@@ -192,9 +192,9 @@ module _ (K : ℕ) (s : Shape) (lawful : IsTrue (is_shape s)) (attributes : s.k 
     doubt = λ d is. shut_no_doubt d is;
   }
 
-  -- what a new file keeps leads to what it means
-  pub new_leads : Leads (new_kept K s) (new_meaning K)
-  new_leads w (inl e) = subst (λ (v : WholeRoot). RootLeads (new_kept K s) v (new_meaning K)) (sym e) new_root_leads
+  -- what a new file keeps leads to its standing
+  pub new_leads : Leads (new_kept K s) (new_standing K)
+  new_leads w (inl e) = subst (λ (v : WholeRoot). RootLeads (new_kept K s) v (new_standing K)) (sym e) new_root_leads
   new_leads w (inr m) = absurd m
 
 module _ (K : ℕ) (s : Shape) (image : List ℕ) (is : IsNewFile K s image) where
@@ -227,9 +227,9 @@ module _ (K : ℕ) (s : Shape) (image : List ℕ) (is : IsNewFile K s image) whe
       new_pages_held (suc zero) bytes at = is.bucket ∙ one-value (bucket_spelling (new_bucket K)) bytes (same_Some (Some (bucket_spelling (new_bucket K))) (Some bytes) at)
       new_pages_held (suc (suc p)) bytes at = absurd (some-not-none bytes (get_replicate (s.pages - 2) None (Some bytes) p at))
 
-  -- and has its meaning
-  pub new_means : HasMeaning image (new_meaning K)
-  new_means = elim (shows_means (new_kept K s) image (new_meaning K) new_shows shut_not_flying (new_leads K s is.shape.lawful is.shape.attributes)) [
-    | inl means ↦ means
+  -- and has its standing
+  pub new_has_standing : HasStanding image (new_standing K)
+  new_has_standing = elim (shows_stands (new_kept K s) image (new_standing K) new_shows shut_not_flying (new_leads K s is.shape.lawful is.shape.attributes)) [
+    | inl stands ↦ stands
     | inr more ↦ shut_no_doubt more.0 more.1
   ]

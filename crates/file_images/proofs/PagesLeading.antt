@@ -21,7 +21,7 @@ use Rattle.history_pages.proofs.Named.{bucket-named, part-named}
 use Rattle.file_images.specs.Kept.{MayBeNewest, Kept}
 use Rattle.file_images.specs.Meets.{AreFewer, Covers}
 use Rattle.file_images.specs.Steps.{settle_page, with_settled, ask_nothing, without_pages}
-use Rattle.file_images.specs.Leads.{Meaning, page_named, RootHolds, Leads}
+use Rattle.file_images.specs.Leads.{Standing, page_named, RootHolds, Leads}
 use Rattle.file_images.specs.LeadingLaws.{NamesNone}
 use Rattle.file_images.proofs.Named.{entry-there, named-by-number}
 use Rattle.file_images.proofs.Settling.{set_other, set_same}
@@ -38,7 +38,7 @@ module _ {K : ℕ} (k : Kept K) (w : WholeRoot) (L : Layout K) (t : Table) (hold
       Contains-append_left w.area.parts (pages_named w.area.table) (slice_index w.area.parts p) (entry-there w.area.parts p (omega (arith, lt, holds.directory)))
 
 -- what a root's pages always hold stays where other pages change
-module _ {K : ℕ} (k : Kept K) (always fresh : List (Option (List ℕ))) (m : Meaning K) (same : (w : WholeRoot) (p : ℕ) → MayBeNewest k w → Contains (w.area.parts ++ pages_named w.area.table) p → slice_get always p ≡ slice_get k.always p) where
+module _ {K : ℕ} (k : Kept K) (always fresh : List (Option (List ℕ))) (m : Standing K) (same : (w : WholeRoot) (p : ℕ) → MayBeNewest k w → Contains (w.area.parts ++ pages_named w.area.table) p → slice_get always p ≡ slice_get k.always p) where
   holds_still : (w : WholeRoot) (L : Layout K) (t : Table) → MayBeNewest k w → RootHolds k w L t → RootHolds (record k { always = always; fresh = fresh }) w L t
   holds_still w L t newest was = record {
     scales = was.scales;
@@ -68,7 +68,7 @@ module _ {K : ℕ} (k : Kept K) (always fresh : List (Option (List ℕ))) (m : M
       }
 
 -- what fresh pages read as leads nowhere else
-pub leads_fresh : {K : ℕ} (k : Kept K) (fresh : List (Option (List ℕ))) (m : Meaning K) → Leads k m → Leads (record k { fresh = fresh }) m
+pub leads_fresh : {K : ℕ} (k : Kept K) (fresh : List (Option (List ℕ))) (m : Standing K) → Leads k m → Leads (record k { fresh = fresh }) m
 leads_fresh k fresh m leads = pages_lead k k.always fresh m (λ w p newest named. refl) leads
 
 settled_beside : (fresh always : List (Option (List ℕ))) (pages : List ℕ) (p : ℕ) → (Contains pages p → ⊥) → slice_get (fold (settle_page fresh) always pages) p ≡ slice_get always p
@@ -84,10 +84,10 @@ unasked_beside always (q ∷ qs) p none =
     ∙ set_other always q p None (λ e. none (subst (λ (n : ℕ). Contains (q ∷ qs) n) e (contains-first q qs)))
 
 -- pages that are settled or let go, where no newest root names them
-pub leads_settled : {K : ℕ} (k : Kept K) (m : Meaning K) (pages : List ℕ) → NamesNone k pages → Leads k m → Leads (with_settled k pages) m
+pub leads_settled : {K : ℕ} (k : Kept K) (m : Standing K) (pages : List ℕ) → NamesNone k pages → Leads k m → Leads (with_settled k pages) m
 leads_settled k m pages none leads = pages_lead k (fold (settle_page k.fresh) k.always pages) k.fresh m (λ w p newest named. settled_beside k.fresh k.always pages p (λ on. none w p newest on named)) leads
 
-pub leads_let_go : {K : ℕ} (k : Kept K) (m : Meaning K) (pages : List ℕ) → NamesNone k pages → Leads k m → Leads (without_pages k pages) m
+pub leads_let_go : {K : ℕ} (k : Kept K) (m : Standing K) (pages : List ℕ) → NamesNone k pages → Leads k m → Leads (without_pages k pages) m
 leads_let_go k m pages none leads = pages_lead k (fold ask_nothing k.always pages) (fold ask_nothing k.fresh pages) m (λ w p newest named. unasked_beside k.always pages p (λ on. none w p newest on named)) leads
 
 fewer_unasked : (pages : List ℕ) (all : List (Option (List ℕ))) → AreFewer all (fold ask_nothing all pages)

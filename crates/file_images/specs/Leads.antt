@@ -1,4 +1,4 @@
--- What is kept on a file leads from its root to one meaning: plain facts, with no disk and no image.
+-- What is kept on a file leads from its root to one standing: plain facts, with no disk and no image.
 use Rattle.std.specs.Prelude.{◌≡◌, ◌⊎◌, ◌<◌, ◌≤◌, ◌+◌, ℕ, List, [], ◌∷◌, ◌++◌, map, flat_map, fold, length, slice_get, slice_index, Some, Contains}
 use Rattle.grid_types.specs.declared.layout_change.LoggedUpdate.{LoggedUpdate}
 use Rattle.grid_types.specs.declared.owner.Owner.{Owner}
@@ -15,19 +15,19 @@ use Rattle.grid_model.specs.Roots.{WholeRoot}
 use Rattle.history_pages.specs.OwnerPages.{owner_page}
 use Rattle.file_images.specs.Kept.{Barred, Counting, PlacedBatch, NextSlot, Shut, Flying, InDoubt, MayBeNewest, Kept, on_half}
 
--- what a file means: a table at a place of the history, and the layout there
-pub record Meaning (K : ℕ) : Type 0 where
+-- the standing of a file: a table at a place of the history, and the layout there
+pub record Standing (K : ℕ) : Type 0 where
   pub place : ℕ
   pub table : Table
   pub layout : Layout K
 
--- an image has a meaning: it stands for the table at the place, and has the layout
-pub record HasMeaning {K : ℕ} (image : List ℕ) (m : Meaning K) : Type 0 where
+-- an image has a standing: it stands for the table at the place, and has the layout
+pub record HasStanding {K : ℕ} (image : List ℕ) (m : Standing K) : Type 0 where
   pub stands : Stands K image m.place m.table
   pub shaped : IsShaped image m.layout
 
--- the meaning behind a batch
-abbrev pub behind : {K : ℕ} → Meaning K → LoggedBatch K → Meaning K
+-- the standing behind a batch
+abbrev pub behind : {K : ℕ} → Standing K → LoggedBatch K → Standing K
 behind m b = record { place = m.place + length b.updates; table = fold logged_effect m.table b.updates; layout = layout_after m.layout b.updates }
 
 -- batches follow one another from a place to another, none empty
@@ -76,8 +76,8 @@ pub record MayFollow {K : ℕ} (k : Kept K) (w : WholeRoot) (L : Layout K) (t : 
   pub first : d.first ≡ place + 1
   pub may : MayRedoAll k.shape (opened t L w.fields.front) (updates_in (taken ++ d ∷ []))
 
--- a root leads to a meaning: its pages hold a layout and a table, and from its front the batches of its session that count go up to the place without a gap, and make of both the layout and the table there; no other batch joins them; each may be taken, and so may the one in doubt behind them
-pub record RootLeads {K : ℕ} (k : Kept K) (w : WholeRoot) (m : Meaning K) : Type 0 where
+-- a root leads to a standing: its pages hold a layout and a table, and from its front the batches of its session that count go up to the place without a gap, and make of both the layout and the table there; no other batch joins them; each may be taken, and so may the one in doubt behind them
+pub record RootLeads {K : ℕ} (k : Kept K) (w : WholeRoot) (m : Standing K) : Type 0 where
   pub layout : Layout K
   pub table : Table
   pub holds : RootHolds k w layout table
@@ -91,10 +91,10 @@ pub record RootLeads {K : ℕ} (k : Kept K) (w : WholeRoot) (m : Meaning K) : Ty
   pub may : MayRedoAll k.shape (opened table layout w.fields.front) (updates_in taken)
   pub doubt : (d : LoggedBatch K) → k.next ≡ InDoubt d → MayFollow k w layout table taken m.place d
 
--- what is kept leads to a meaning: each root that may be the newest leads to it
-abbrev pub Leads : {K : ℕ} → Kept K → Meaning K → Type 0
+-- what is kept leads to a standing: each root that may be the newest leads to it
+abbrev pub Leads : {K : ℕ} → Kept K → Standing K → Type 0
 Leads k m = (w : WholeRoot) → MayBeNewest k w → RootLeads k w m
 
--- an image has a meaning, or, where a batch is in doubt, the one behind it
-abbrev pub HasMeaningOrBehind : {K : ℕ} → Kept K → List ℕ → Meaning K → Type 0
-HasMeaningOrBehind {K} k image m = HasMeaning image m ⊎ ((d : LoggedBatch K) × (k.next ≡ InDoubt d) × HasMeaning image (behind m d))
+-- an image has a standing, or, where a batch is in doubt, the one behind it
+abbrev pub HasStandingOrBehind : {K : ℕ} → Kept K → List ℕ → Standing K → Type 0
+HasStandingOrBehind {K} k image m = HasStanding image m ⊎ ((d : LoggedBatch K) × (k.next ≡ InDoubt d) × HasStanding image (behind m d))

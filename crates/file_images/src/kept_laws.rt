@@ -1,16 +1,16 @@
 //! The laws of what a file keeps, as contracts of functions without code.
-ghost use Rattle.file_images.specs.KeptLaws.{WritesApartLeave, ShownMeans, DoubtLeadsOn, CommittingShows, ClearingShows, TurningShows, RootStepsShow, RootMomentsShow};
-ghost use Rattle.file_images.specs.NewFiles.{NewFilesMean};
+ghost use Rattle.file_images.specs.KeptLaws.{WritesApartLeave, ShownStands, DoubtLeadsOn, CommittingShows, ClearingShows, TurningShows, RootStepsShow, RootMomentsShow};
+ghost use Rattle.file_images.specs.NewFiles.{NewFilesStand};
 
 /// The law of pages apart: a write on a page of which nothing is kept leaves what an image shows.
 pub fn apart_law<const K: usize>()
     ensures { WritesApartLeave K }
 {}
 
-/// The law of meanings: an image that shows what a file keeps has the meaning to which that leads, or the one behind the
+/// The law of standings: an image that shows what a file keeps has the standing to which that leads, or the one behind the
 /// batch in doubt.
-pub fn meaning_law<const K: usize>()
-    ensures { ShownMeans K }
+pub fn standing_law<const K: usize>()
+    ensures { ShownStands K }
 {}
 
 /// The law of doubt: what becomes of a batch in doubt decides where all that is kept leads.
@@ -35,8 +35,8 @@ pub fn root_law<const K: usize>()
     ensures moments { RootMomentsShow K }
 {}
 
-/// The law of new files: the image of a new file shows what a new file keeps, and has the meaning to which that leads: at
+/// The law of new files: the image of a new file shows what a new file keeps, and has the standing to which that leads: at
 /// place 0 the empty table, with the layout of a new file.
 pub fn new_file_law<const K: usize>()
-    ensures { NewFilesMean K }
+    ensures { NewFilesStand K }
 {}

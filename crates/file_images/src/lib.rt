@@ -7,7 +7,7 @@ mod leading_laws;
 mod meeting_laws;
 
 pub use kept_laws::{
-    apart_law, commit_law, doubt_law, half_law, meaning_law, new_file_law, root_law,
+    apart_law, commit_law, doubt_law, half_law, new_file_law, root_law, standing_law,
 };
 pub use laws::{damage_law, free_page_law, image_law};
 pub use leading_laws::{leading_journal_law, leading_page_law, leading_root_law};

@@ -1,10 +1,10 @@
 use Rattle.std.proofs.Common.{subst, sym, arith}
 use Rattle.std.specs.Prelude.{Some, None}
 use Rattle.grid_model.proofs.Boxes.{some-not-none}
-use Rattle.file_images.specs.Leads.{HasMeaning}
-use Rattle.file_images.specs.NewFiles.{new_kept, new_meaning}
+use Rattle.file_images.specs.Leads.{HasStanding}
+use Rattle.file_images.specs.NewFiles.{new_kept, new_standing}
 use Rattle.file_images.specs.Shows.{Shows}
-use Rattle.file_images.proofs.NewFile.{get_replicate, new_shows, new_means}
+use Rattle.file_images.proofs.NewFile.{get_replicate, new_shows, new_has_standing}
 use Rattle.file_images.proofs.meeting_laws.new_disk_law.Goals as goal
 
 pub returns : goal.returns
@@ -17,5 +17,5 @@ returns g c = record {
     writes = omega arith;
     size = long;
   };
-  means = λ s d h synced is image now. subst (λ image. HasMeaning image (new_meaning g.row.K)) (sym (synced.only h image now)) (new_means g.row.K s (g.D.Disk.seen d) is);
+  stands = λ s d h synced is image now. subst (λ image. HasStanding image (new_standing g.row.K)) (sym (synced.only h image now)) (new_has_standing g.row.K s (g.D.Disk.seen d) is);
 }

@@ -1,4 +1,4 @@
--- An image that shows what a file keeps has the meaning to which that leads, or the one behind the batch in doubt.
+-- An image that shows what a file keeps has the standing to which that leads, or the one behind the batch in doubt.
 use Rattle.std.proofs.Common.{◌≡◌, ◌≢◌, ◌<◌, ◌≤◌, inl, inr, ℕ, List, [], ◌∷◌, length, map, get_or, cond, refl, ap, subst, ◌∙◌, arith, lt-ltb}
 use Rattle.std.specs.Prelude.{slice_index, Option, Some, None}
 use Rattle.std.specs.Option.{option_map}
@@ -20,7 +20,7 @@ use Rattle.history_pages.specs.OwnerPages.{as_bucket, numbered_bucket, owner_pag
 use Rattle.file_images.specs.Kept.{Counting, Barred, NextSlot, Shut, Flying, Kept}
 use Rattle.file_images.specs.Shows.{Shows}
 use Rattle.file_images.specs.Steps.{with_slot, with_barred, with_next_shut}
-use Rattle.file_images.specs.Leads.{Meaning, HasMeaning, behind, RootHolds, reach, IsKnown, RootLeads, Leads, HasMeaningOrBehind}
+use Rattle.file_images.specs.Leads.{Standing, HasStanding, behind, RootHolds, reach, IsKnown, RootLeads, Leads, HasStandingOrBehind}
 use Rattle.file_images.proofs.Found.{gates, batch_at, has_gates, opened_there, written_there, written_all, joins}
 use Rattle.file_images.proofs.Newest.{newest_of}
 use Rattle.file_images.proofs.Resolving.{resolved_by}
@@ -59,8 +59,8 @@ module _ {K : ℕ} (k : Kept K) (image : List ℕ) (was : Shows k image) (w : Wh
   pub pages_spell : PagesSpell k.shape image w.area.parts w.area.table L t
   pages_spell = record { count = holds.directory; directory = part_there; numbers = holds.numbers; buckets = bucket_there }
 
--- where nothing is on the next slot, it has the meaning to which its newest root leads
-module _ {K : ℕ} (k : Kept K) (image : List ℕ) (was : Shows k image) (shut : k.next ≡ Shut) (w : WholeRoot) (whole : IsNewestWhole k.shape w image) (m : Meaning K) (c : RootLeads k w m) where
+-- where nothing is on the next slot, it has the standing to which its newest root leads
+module _ {K : ℕ} (k : Kept K) (image : List ℕ) (was : Shows k image) (shut : k.next ≡ Shut) (w : WholeRoot) (whole : IsNewestWhole k.shape w image) (m : Standing K) (c : RootLeads k w m) where
   abbrev found : Found K
   found = record {
     shape = k.shape;
@@ -101,25 +101,25 @@ module _ {K : ℕ} (k : Kept K) (image : List ℕ) (was : Shows k image) (shut :
     sessions = written_all k image was shut (λ b. b.session ≤ w.fields.session) c.sessions;
   }
 
-  pub means_shut : HasMeaning image m
-  means_shut = record {
+  pub stands_shut : HasStanding image m
+  stands_shut = record {
     stands = record { reads = reads; written = are_written; layout = c.layout; root = root_spells; updates = c.may };
     shaped = record { place = m.place; table = m.table; reads = reads; layout = c.layout; root = root_spells; after = c.makes_layout };
   }
 
--- an image has the meaning, or that behind the batch in doubt, be the newest root the kept one or the one that was tried
-pub shows_means : {K : ℕ} (k : Kept K) (image : List ℕ) (m : Meaning K) → Shows k image → k.next ≢ Flying → Leads k m → HasMeaningOrBehind k image m
-shows_means {K = K} k image m was still leads =
+-- an image has the standing, or that behind the batch in doubt, be the newest root the kept one or the one that was tried
+pub shows_stands : {K : ℕ} (k : Kept K) (image : List ℕ) (m : Standing K) → Shows k image → k.next ≢ Flying → Leads k m → HasStandingOrBehind k image m
+shows_stands {K = K} k image m was still leads =
     let newest = newest_of k.shape k.root k.other image was.roots in
     let w = newest.newest in
     let c = leads w newest.is in
     elim (resolved_by k image was k.next refl still) [
-      | inl plain ↦ inl (means_shut (with_next_shut k) image plain refl w newest.whole m (leads_shut k w m c))
+      | inl plain ↦ inl (stands_shut (with_next_shut k) image plain refl w newest.whole m (leads_shut k w m c))
       | inr more ↦
           let d = more.0 in
           let some : 0 < length d.updates = omega (arith, more.1.spelled.lawful.some) in
           elim more.1.how [
-            | inl barred ↦ inl (means_shut (with_barred k d) image barred refl w newest.whole m (leads_barred k w m c d more.1.is was.sizes.two Barred refl))
-            | inr counts ↦ inr (d, more.1.is, means_shut (with_slot k d) image counts refl w newest.whole (behind m d) (leads_placed k w m c d more.1.is was.sizes.two Counting some refl))
+            | inl barred ↦ inl (stands_shut (with_barred k d) image barred refl w newest.whole m (leads_barred k w m c d more.1.is was.sizes.two Barred refl))
+            | inr counts ↦ inr (d, more.1.is, stands_shut (with_slot k d) image counts refl w newest.whole (behind m d) (leads_placed k w m c d more.1.is was.sizes.two Counting some refl))
           ]
     ]
