@@ -13,7 +13,7 @@ use Rattle.file_roots.specs.Damage.{IsRootDamage}
 use Rattle.file_roots.specs.Refusals.{MayRefuseReading}
 use Rattle.recovery.specs.Beginnings.{BeginsWhole, IsShapeFault}
 use Rattle.recovery.specs.Faults.{IsJournalDamage, IsFirstFault, IsNoFaultOr}
-use Rattle.recovery.specs.Joins.{AreLawfulOrBlank}
+use Rattle.recovery.specs.Joins.{AreLawfulOrEmpty}
 use Rattle.recovery.specs.Surveys.{IsJournal, IsSurvey, survey_pages}
 use Rattle.recovery.specs.declared.journal.Journal.{Journal}
 use Rattle.recovery.specs.declared.survey.Survey.{Survey}
@@ -52,9 +52,9 @@ module _ (K : ℕ) (image : List ℕ) where
 
 -- shape, newest root, journal and what joins make a survey
 pub survey_of : {K : ℕ} (image : List ℕ) (survey : Survey K) (journal : Journal K) → HasShape K image survey.geometry.shape → IsNewestWhole survey.geometry.shape (whole_of survey.root) image
-    → IsJournal survey.geometry.shape image survey.root.session journal → (AreLawfulOrBlank journal.batches → Join journal.batches survey.root.front survey.taken survey.front) → survey.used ≡ journal.used → IsSurvey image survey
+    → IsJournal survey.geometry.shape image survey.root.session journal → (AreLawfulOrEmpty journal.batches → Join journal.batches survey.root.front survey.taken survey.front) → survey.used ≡ journal.used → IsSurvey image survey
 survey_of image survey journal has whole is joined used =
-    let lawful : AreLawfulOrBlank journal.batches = subst AreLawfulOrBlank (sym is.are) (session_lawful survey.geometry.shape image (open_slots is.gates) is.all survey.root.session is.each) in
+    let lawful : AreLawfulOrEmpty journal.batches = subst AreLawfulOrEmpty (sym is.are) (session_lawful survey.geometry.shape image (open_slots is.gates) is.all survey.root.session is.each) in
     record {
       gates = is.gates;
       batches = is.all;

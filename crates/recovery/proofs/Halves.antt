@@ -16,7 +16,7 @@ use Rattle.journal_slots.proofs.OneScan.{the_gates}
 use Rattle.journal_slots.specs.declared.scan.Scan.{Scan}
 use Rattle.journal_slots.specs.Scans.{IsScan, SpellsSome}
 use Rattle.recovery.specs.Faults.{IsGoodHalf}
-use Rattle.recovery.specs.Joins.{AreLawfulOrBlank, blank}
+use Rattle.recovery.specs.Joins.{AreLawfulOrEmpty, empty_batch}
 use Rattle.recovery.specs.Surveys.{IsJournal}
 use Rattle.recovery.specs.declared.journal.Journal.{Journal}
 
@@ -59,17 +59,17 @@ module _ {K : ℕ} (s : Shape) (image : List ℕ) where
       (has.each i (get_or slots i (0, 0)) (get_or bs i d) (slice_get-get_or slots i (0, 0) (omega (arith, lt, has.count))) (slice_get-get_or bs i d lt)).lawful
 
   -- so are those of a session
-  pub session_lawful : (slots : List (ℕ × ℕ)) (bs : List (LoggedBatch K)) (session : ℕ) → HasBatches s image slots bs → AreLawfulOrBlank (of_session session bs)
-  session_lawful slots bs session has = λ i lt some. All-filter (λ b. b.session == session) IsBatch bs (slots_lawful slots bs has) i blank lt
+  pub session_lawful : (slots : List (ℕ × ℕ)) (bs : List (LoggedBatch K)) (session : ℕ) → HasBatches s image slots bs → AreLawfulOrEmpty (of_session session bs)
+  session_lawful slots bs session has = λ i lt some. All-filter (λ b. b.session == session) IsBatch bs (slots_lawful slots bs has) i empty_batch lt
 
   -- among slots that have batches each spells one
   spells_some : (slots : List (ℕ × ℕ)) (bs : List (LoggedBatch K)) (slot : ℕ × ℕ) → HasBatches s image slots bs → Contains slots slot → SpellsSome K (page_of (places.slot_page s slot.0 slot.1) image)
   spells_some slots bs slot has there =
       let i = there.0 in
-      let b = get_or bs i blank in
+      let b = get_or bs i empty_batch in
       record {
         batch = b;
-        spelled = has.each i slot b (slice_get-get_or slots i slot there.1 ∙ ap Some there.2) (slice_get-get_or bs i blank (omega (arith, there.1, has.count)));
+        spelled = has.each i slot b (slice_get-get_or slots i slot there.1 ∙ ap Some there.2) (slice_get-get_or bs i empty_batch (omega (arith, there.1, has.count)));
       }
 
   -- no page of a half is bad whose gates are spelled, and whose open slots are among slots that have batches

@@ -20,7 +20,7 @@ use Rattle.file_roots.specs.Damage.{IsRootDamage}
 use Rattle.file_roots.proofs.Headers.{header_inside}
 use Rattle.file_roots.proofs.Naming.{one_is_damaged}
 use Rattle.file_roots.proofs.Unique.{undamaged, one_file_shape}
-use Rattle.recovery.specs.Beginnings.{version_on, BeginsAsGrid, IsForeign, IsOurs, HasUnknownVersion, IsShapeless, IsShort, IsUneven, BeginsWhole}
+use Rattle.recovery.specs.Beginnings.{version_on, BeginsAsGrid, IsForeign, IsOurs, HasUnknownVersion, IsShapeless, IsShort, IsUneven, BeginsWhole, IsShapeFault}
 use Rattle.recovery.specs.Faults.{IsOtherArity, IsJournalDamage, HasBadJournal, IsDamagedBehind, IsFirstFault}
 use Rattle.recovery.specs.Laws.{HasOneAnswer, CountsUpdates}
 use Rattle.recovery.proofs.Halves.{found_good}
@@ -108,6 +108,12 @@ module _ (image : List ℕ) where
     has_undamaged page (inl bad) = bad.none s has_spelled
     has_undamaged page (inr (inl bad)) = not_short s page (record { spelled = has_spelled; long = has.long }) bad
     has_undamaged page (inr (inr bad)) = bad.other (has.second ∙ sym has.first)
+
+    pub no_shape_fault : (e : Refusal) → IsShapeFault image e → ⊥
+    no_shape_fault refusal.Foreign bad = not_foreign has_ours bad
+    no_shape_fault (refusal.Version version) bad = not_unknown version has_known bad
+    no_shape_fault (refusal.Damaged page) bad = has_undamaged page bad
+    no_shape_fault other bad = absurd bad
 
     -- it has one number of attributes
     one_arity : (J : ℕ) (t : Shape) → HasShape J image t → J ≡ K
@@ -255,6 +261,7 @@ module _ (K : ℕ) (image : List ℕ) where
 -- an image has one answer
 pub one_answer : (K : ℕ) → HasOneAnswer K
 one_answer K = record {
+  shape = λ image s e has bad. no_shape_fault image K s has e bad;
   found = λ image f n e is bad. no_point K image f n is (point_of K image e bad).0;
   fault = λ image d e x y. one_fault K image d e x y;
 }

@@ -7,7 +7,13 @@ use Rattle.std.proofs.lemmas.List.{append-nil, length-set, get_or-set_other, get
 use Rattle.grid_model.specs.Spellings.{LoggedBatch}
 use Rattle.grid_model.specs.Lawful.{IsBatch}
 use Rattle.grid_model.specs.Images.{joining, Join}
-use Rattle.recovery.specs.Joins.{blank, AreLawfulOrBlank, LeadsOn, IsFirstOn, NoneLeadsOn, IsTaking}
+use Rattle.recovery.specs.Joins.{empty_batch, AreLawfulOrEmpty, LeadsOn, IsFirstOn, NoneLeadsOn}
+
+-- of all batches those that join from the front on were taken, up to a place, and these are left: what joins from there on joins behind those that were taken, and the same batches join in what is left
+pub record IsTaking {K : ℕ} (all : List (LoggedBatch K)) (front : ℕ) (taken left : List (LoggedBatch K)) (place : ℕ) : Type 0 where
+  pub joined : (more : List (LoggedBatch K)) (n : ℕ) → Join all place more n → Join all front (taken ++ more) n
+  pub same : (q : ℕ) → place ≤ q → joining all q ≡ joining left q
+  pub lawful : AreLawfulOrEmpty left
 
 module _ {X : Type 0} (p : X → Bool) (d : X) where
   -- where no item passes a test, none is found
@@ -33,47 +39,47 @@ module _ {K : ℕ} where
   lawful_leads place b lawful first = record { first = first; some = lawful.some; small = omega (arith, first, lawful.few, lawful.last) }
 
   -- in a list a batch that does not lead on does not begin with the next place
-  not_next : (left : List (LoggedBatch K)) (place j : ℕ) → AreLawfulOrBlank left → j < length left → (LeadsOn place (get_or left j blank) → ⊥) → ((get_or left j blank).first == place + 1) ≡ false
-  not_next left place j lawful lt none = ne_eqb (get_or left j blank).first (place + 1)
-      (λ e. none (lawful_leads place (get_or left j blank) (lawful j lt (λ zero. absurd (omega (arith, e, zero)))) e))
+  not_next : (left : List (LoggedBatch K)) (place j : ℕ) → AreLawfulOrEmpty left → j < length left → (LeadsOn place (get_or left j empty_batch) → ⊥) → ((get_or left j empty_batch).first == place + 1) ≡ false
+  not_next left place j lawful lt none = ne_eqb (get_or left j empty_batch).first (place + 1)
+      (λ e. none (lawful_leads place (get_or left j empty_batch) (lawful j lt (λ zero. absurd (omega (arith, e, zero)))) e))
 
   -- nothing was taken yet
-  pub taking_begins : (all : List (LoggedBatch K)) (front : ℕ) → AreLawfulOrBlank all → IsTaking all front [] all front
+  pub taking_begins : (all : List (LoggedBatch K)) (front : ℕ) → AreLawfulOrEmpty all → IsTaking all front [] all front
   taking_begins all front lawful = record { joined = λ more n join. join; same = λ q le. refl; lawful = lawful }
 
   -- a batch more is taken
-  one_more : (all taken left : List (LoggedBatch K)) (front place i : ℕ) (b : LoggedBatch K) → IsTaking all front taken left place → IsFirstOn left place i → b ≡ get_or left i blank
-      → IsTaking all front (taken ++ b ∷ []) (set left i blank) (place + length b.updates)
+  one_more : (all taken left : List (LoggedBatch K)) (front place i : ℕ) (b : LoggedBatch K) → IsTaking all front taken left place → IsFirstOn left place i → b ≡ get_or left i empty_batch
+      → IsTaking all front (taken ++ b ∷ []) (set left i empty_batch) (place + length b.updates)
   one_more all taken left front place i b had first is =
       let some : 1 ≤ length b.updates = subst (λ (c : LoggedBatch K). 1 ≤ length c.updates) (sym is) first.leads.some in
-      let found : joining left place ≡ Some (get_or left i blank) = find_first (λ c. c.first == place + 1) blank left i first.inside (eq-eqb (get_or left i blank).first (place + 1) first.leads.first)
+      let found : joining left place ≡ Some (get_or left i empty_batch) = find_first (λ c. c.first == place + 1) empty_batch left i first.inside (eq-eqb (get_or left i empty_batch).first (place + 1) first.leads.first)
       (λ j lt. not_next left place j had.lawful (omega (arith, lt, first.inside)) (first.before j lt)) in
       record {
         joined = λ more n join. subst (λ bs. Join all front bs n) (sym (append_assoc taken (b ∷ []) more)) (had.joined (b ∷ more) n (had.same place (omega arith) ∙ found ∙ ap Some (sym is), join));
         same = λ q le. had.same q (omega (arith, le))
-            ∙ sym (find_set (λ c. c.first == q + 1) blank left i blank first.inside (ne_eqb (get_or left i blank).first (q + 1) (λ e. absurd (omega (arith, e, first.leads.first, le, some)))) (ne_eqb 0 (q + 1) (λ e. absurd (omega (arith, e)))));
+            ∙ sym (find_set (λ c. c.first == q + 1) empty_batch left i empty_batch first.inside (ne_eqb (get_or left i empty_batch).first (q + 1) (λ e. absurd (omega (arith, e, first.leads.first, le, some)))) (ne_eqb 0 (q + 1) (λ e. absurd (omega (arith, e)))));
         lawful = λ j lt ne. elim (cases_eq j i) [
           | inl at ↦
-              let gone : get_or (set left i blank) j blank ≡ blank = ap (λ k. get_or (set left i blank) k blank) at ∙ get_or-set_same left i blank blank first.inside in
+              let gone : get_or (set left i empty_batch) j empty_batch ≡ empty_batch = ap (λ k. get_or (set left i empty_batch) k empty_batch) at ∙ get_or-set_same left i empty_batch empty_batch first.inside in
               absurd (ne (ap (λ (c : LoggedBatch K). c.first) gone))
           | inr other ↦
-              let same : get_or (set left i blank) j blank ≡ get_or left j blank = get_or-set_other left i j blank blank other in
-              let inside : j < length left = omega (arith, lt, length-set left i blank) in
+              let same : get_or (set left i empty_batch) j empty_batch ≡ get_or left j empty_batch = get_or-set_other left i j empty_batch empty_batch other in
+              let inside : j < length left = omega (arith, lt, length-set left i empty_batch) in
               subst IsBatch (sym same) (had.lawful j inside (λ zero. ne (ap (λ (c : LoggedBatch K). c.first) same ∙ zero)))
         ];
       }
 
   -- and the lists after that
-  pub taking_more : (all taken left more fewer : List (LoggedBatch K)) (front place next i : ℕ) (b : LoggedBatch K) → IsTaking all front taken left place → IsFirstOn left place i → b ≡ get_or left i blank
-      → more ≡ taken ++ b ∷ [] → fewer ≡ set left i blank → next ≡ place + length b.updates → IsTaking all front more fewer next
+  pub taking_more : (all taken left more fewer : List (LoggedBatch K)) (front place next i : ℕ) (b : LoggedBatch K) → IsTaking all front taken left place → IsFirstOn left place i → b ≡ get_or left i empty_batch
+      → more ≡ taken ++ b ∷ [] → fewer ≡ set left i empty_batch → next ≡ place + length b.updates → IsTaking all front more fewer next
   taking_more all taken left more fewer front place next i b had first is added gone reached =
       subst (λ t. IsTaking all front t fewer next) (sym added) (subst (λ l. IsTaking all front (taken ++ b ∷ []) l next) (sym gone)
-      (subst (λ p. IsTaking all front (taken ++ b ∷ []) (set left i blank) p) (sym reached) (one_more all taken left front place i b had first is)))
+      (subst (λ p. IsTaking all front (taken ++ b ∷ []) (set left i empty_batch) p) (sym reached) (one_more all taken left front place i b had first is)))
 
   -- all batches that join were taken
   pub taking_ends : (all taken left : List (LoggedBatch K)) (front place : ℕ) → IsTaking all front taken left place → NoneLeadsOn left place → Join all front taken place
   taking_ends all taken left front place had none =
-      let nothing : joining left place ≡ None = find_none (λ c. c.first == place + 1) blank left (λ i lt. not_next left place i had.lawful lt (none i lt)) in
+      let nothing : joining left place ≡ None = find_none (λ c. c.first == place + 1) empty_batch left (λ i lt. not_next left place i had.lawful lt (none i lt)) in
       subst (λ bs. Join all front bs place) (append-nil taken) (had.joined [] place (refl, had.same place (omega arith) ∙ nothing))
 
 -- the place counts the updates of a batch more

@@ -3,7 +3,8 @@ use Rattle.std.specs.Prelude.{◌≡◌, ◌≢◌, ◌⊎◌, ℕ, List}
 use Rattle.grid_types.specs.declared.shape.Shape.{Shape}
 use Rattle.grid_types.specs.declared.refusal.Refusal.{Refusal}
 use Rattle.grid_types.specs.declared.refusal.Refusal.TheVariants as refusal
-use Rattle.grid_model.specs.Images.{HasShape}
+use Rattle.grid_model.specs.Spellings.{RootFields}
+use Rattle.grid_model.specs.Images.{HasShape, IsNewest}
 use Rattle.grid_model.specs.Roots.{WholeRoot, IsNewestWhole}
 use Rattle.journal_slots.specs.Scans.{IsFirstBadPage}
 use Rattle.file_roots.specs.Damage.{IsRootDamage}
@@ -44,3 +45,10 @@ IsFirstFault K image other = IsShapeFault image other
 -- a refusal says nothing of the image, since a read failed or memory was wanting, or it is the first fault
 abbrev pub IsNoFaultOr : (Refusal → Type 0) → Refusal → Type 0
 IsNoFaultOr fault e = (e ≡ refusal.ReadFault) ⊎ ((e ≡ refusal.NoMemory) ⊎ fault e)
+
+-- an image is a file of K attributes, and has a newest root
+pub record HasNewestRoot (K : ℕ) (image : List ℕ) : Type 0 where
+  pub shape : Shape
+  pub has : HasShape K image shape
+  pub root : RootFields
+  pub newest : IsNewest shape image root

@@ -1,11 +1,14 @@
 -- What the definitions of surveys promise.
 use Rattle.std.specs.Prelude.{◌≡◌, ◌+◌, ℕ, List, length}
+use Rattle.grid_types.specs.declared.shape.Shape.{Shape}
 use Rattle.grid_types.specs.declared.refusal.Refusal.{Refusal}
-use Rattle.grid_model.specs.Images.{Found, IsFound, updates_taken}
+use Rattle.grid_model.specs.Images.{HasShape, Found, IsFound, updates_taken}
+use Rattle.recovery.specs.Beginnings.{IsShapeFault}
 use Rattle.recovery.specs.Faults.{IsFirstFault}
 
--- an image has one answer: where all that a survey looks for is found, there is no fault, and no image has two first faults
+-- an image has one answer: where it has a shape, no fault says that it has none; where all that a survey looks for is found, there is no fault; and no image has two first faults
 pub record HasOneAnswer (K : ℕ) : Type 0 where
+  pub shape : (image : List ℕ) (s : Shape) (e : Refusal) → HasShape K image s → IsShapeFault image e → ⊥
   pub found : (image : List ℕ) (f : Found K) (n : ℕ) (e : Refusal) → IsFound image f n → IsFirstFault K image e → ⊥
   pub fault : (image : List ℕ) (d e : Refusal) → IsFirstFault K image d → IsFirstFault K image e → d ≡ e
 

@@ -3,7 +3,7 @@ ghost use Rattle.std.specs.Prelude.{◌≡◌, ◌<◌, ◌≤◌, ◌+◌, ◌�
 ghost use Rattle.grid_types.specs.declared.sizes.TheConstants.{MOST_ATTRIBUTES};
 ghost use Rattle.grid_model.specs.Images.{Join};
 ghost use Rattle.journal_slots.specs.Batches.{batch_of};
-ghost use Rattle.recovery.specs.Joins.{blank, AreLawfulOrBlank, LeadsOn, IsFirstOn, NoneLeadsOn};
+ghost use Rattle.recovery.specs.Joins.{empty_batch, AreLawfulOrEmpty, LeadsOn, IsFirstOn, NoneLeadsOn};
 
 use crate::joined::Joined;
 use arrayvec::ArrayVec;
@@ -41,9 +41,9 @@ fn first_on<const K: usize>(batches: &[Batch<K>], place: u64) -> Option<usize>
 /// Takes a batch out of a list; an empty one stands there then, so that the others keep their order.
 fn take_out<const K: usize>(batches: &mut Vec<Batch<K>>, i: usize) -> Batch<K>
     requires { i < length batches.old.items }
-    ensures taken { batch_of result ≡ slice_index_or (map batch_of batches.old.items) i blank }
+    ensures taken { batch_of result ≡ slice_index_or (map batch_of batches.old.items) i empty_batch }
     ensures left { map batch_of batches.new.items
-        ≡ slice_set (map batch_of batches.old.items) i blank }
+        ≡ slice_set (map batch_of batches.old.items) i empty_batch }
 {
     let empty = Batch {
         session: 0,
@@ -62,7 +62,7 @@ pub fn join<const K: usize>(
 ) -> Result<Joined<K>, AllocError>
     requires few { K ≤ MOST_ATTRIBUTES }
     requires front { front < 2 ^ 63 }
-    ensures joined { AreLawfulOrBlank batches.entry
+    ensures joined { AreLawfulOrEmpty batches.entry
         → IfOk result (λ j. Join batches.entry front j.taken j.front) }
     ensures count { IfOk result (λ j.
         j.front ≡ front + length (flat_map (λ b. b.updates) j.taken)) }

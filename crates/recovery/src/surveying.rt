@@ -1,13 +1,13 @@
 //! A file is judged before it is opened: its shape, its newest root, its journal, in this order.
 ghost use Rattle.std.specs.Prelude.{◌≡◌, ◌<◌, ◌≤◌, ◌+◌, ◌*◌, ◌^◌, ◌⊎◌, ℕ, IsTrue, IfOk, IfErr, IsErrOf};
-ghost use Rattle.grid_types.specs.declared.refusal.Refusal.TheVariants.{Damaged, ReadFault};
+ghost use Rattle.grid_types.specs.declared.refusal.Refusal.TheVariants.{Damaged, NoMemory, ReadFault};
 ghost use Rattle.grid_types.specs.declared.sizes.TheConstants.{PAGE_BYTES};
 ghost use Rattle.grid_types.specs.declared.shape.Shape.{Shape};
 ghost use Rattle.grid_types.specs.Shapes.{file_pages};
 ghost use Rattle.disk_trait.specs.Calls.{OnlyReads, HasCauses};
 ghost use Rattle.journal_slots.specs.Scans.{IsRefusalOfScan};
 ghost use Rattle.recovery.specs.Beginnings.{BeginsWhole};
-ghost use Rattle.recovery.specs.Faults.{IsJournalDamage, IsFirstFault, IsNoFaultOr};
+ghost use Rattle.recovery.specs.Faults.{IsJournalDamage, IsFirstFault, IsNoFaultOr, HasNewestRoot};
 ghost use Rattle.recovery.specs.Reads.{IsJournalGoodUpTo, AreGoodUpTo};
 ghost use Rattle.recovery.specs.Refusals.{MayRefuseSurvey};
 ghost use Rattle.recovery.specs.Surveys.{IsJournal, IsSurvey, IsLawfulSurvey, survey_pages};
@@ -72,6 +72,9 @@ pub fn survey_file<const K: usize, D: Disk, L: Ledger>(
     ensures found { IsTrue (D.honest disk.old) → IfOk result (IsSurvey (D.seen disk.old)) }
     ensures first { IsTrue (D.honest disk.old)
         → IfErr result (IsNoFaultOr (IsFirstFault K (D.seen disk.old))) }
+    ensures no_memory { IsTrue (D.honest disk.old)
+        → IsErrOf result NoMemory
+        → HasNewestRoot K (D.seen disk.old) }
     ensures before { IsTrue (D.honest disk.old)
         → IsErrOf result ReadFault
         → (n : ℕ)

@@ -3,7 +3,7 @@ use Rattle.std.proofs.lemmas.List.{map-append}
 use Rattle.grid_model.specs.Spellings as model
 use Rattle.grid_model.specs.Images.{Join}
 use Rattle.journal_slots.specs.Batches.{batch_of}
-use Rattle.recovery.specs.Joins.{AreLawfulOrBlank, IsFirstOn, NoneLeadsOn}
+use Rattle.recovery.specs.Joins.{AreLawfulOrEmpty, IsFirstOn, NoneLeadsOn}
 use Rattle.recovery.proofs.Taking.{taking_more, taking_ends, one_counted}
 use Rattle.recovery.proofs.joining.join.Goals as goal
 
@@ -31,6 +31,6 @@ returns-clause-joined g c = λ lawful.
     let all = map batch_of c.into_list-left.result.items in
     let place = c.loop-i.place in
     let none = subst (λ xs. NoneLeadsOn (map batch_of xs) place) c.deref.ensures.value c.in_default.ensures.none in
-    let taking = c.loop-i.invariant.taking (subst AreLawfulOrBlank (sym c.into_list-left.ensures) lawful) in
+    let taking = c.loop-i.invariant.taking (subst AreLawfulOrEmpty (sym c.into_list-left.ensures) lawful) in
     let join = taking_ends all (map batch_of c.loop-i.taken.items) (map batch_of c.loop-i.left.items) c.args.front place taking none in
     subst (λ xs. Join xs c.args.front c.of.result place) c.into_list-left.ensures (subst (λ t. Join all c.args.front t place) (sym c.of.ensures) join)

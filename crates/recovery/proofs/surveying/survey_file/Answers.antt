@@ -1,7 +1,7 @@
 use Rattle.std.proofs.Common.{◌≡◌, ◌+◌, ◌-◌, inl, inr, refl, subst, ◌∙◌, arith}
-use Rattle.grid_types.specs.declared.refusal.Refusal.TheVariants.{Damaged, ReadFault}
+use Rattle.grid_types.specs.declared.refusal.Refusal.TheVariants.{Damaged, NoMemory, ReadFault}
 use Rattle.grid_types.proofs.Places.{one-of-two}
-use Rattle.grid_model.specs.Images.{HasShape}
+use Rattle.grid_model.specs.Images.{HasShape, IsNewest}
 use Rattle.grid_model.specs.Roots.{IsNewestWhole}
 use Rattle.linear_scales.specs.Roots.{whole_of}
 use Rattle.root_pages.proofs.Roots.{few_attributes}
@@ -14,6 +14,7 @@ use Rattle.recovery.specs.Faults.{IsJournalDamage, IsFirstFault, IsNoFaultOr}
 use Rattle.recovery.specs.Reads.{IsJournalGoodUpTo}
 use Rattle.recovery.specs.Surveys.{IsJournal, survey_pages}
 use Rattle.recovery.proofs.Good.{good_none, good_first, good_roots, good_journal}
+use Rattle.recovery.proofs.Refusing.{shape_no_memory}
 use Rattle.recovery.proofs.Firsts.{on_refusal, after_shape, after_root, after_journal, survey_of, pages_same}
 use Rattle.recovery.proofs.surveying.survey_file.Goals as goal
 
@@ -145,3 +146,49 @@ returns-in_err-journal-clause-before g c = λ h is n e.
     let m = n - (4 + area_pages s) in
     good_journal seen s has (whole_of c.in_ok-root.root) whole n m (omega (arith, e, shape.ticks.all, root.ticks.all, c.in_err-journal.ensures.least))
     (subst (λ i. IsJournalGoodUpTo g.row.K s i m) (same.seen h) (c.in_err-journal.ensures.before (same.honest ∙ h) (refused_so _ _ told) m (omega (arith, e, shape.ticks.all, root.ticks.all, c.in_err-journal.ensures.least))))
+
+pub returns-in_err-geometry-clause-no_memory : goal.returns-in_err-geometry-clause-no_memory
+returns-in_err-geometry-clause-no_memory g c = λ h is.
+    let e = c.in_err-geometry.field-0.0 in
+    absurd (shape_no_memory e c.in_err-geometry.ensures.causes.no_other (same_refusal c.from_residual.result e NoMemory c.from_residual.ensures.1 is))
+
+pub returns-in_err-root-clause-no_memory : goal.returns-in_err-root-clause-no_memory
+returns-in_err-root-clause-no_memory g c = λ h is.
+    let s = c.in_ok-geometry.geometry.shape in
+    let seen = g.D.Disk.seen c.args.disk.now in
+    let shape = c.in_ok-geometry.ensures in
+    let e = c.in_err-root.field-0.0 in
+    let told = same_refusal c.from_residual-in_err-root.result e NoMemory c.from_residual-in_err-root.ensures.1 is in
+    let found = (c.in_err-root.ensures.tells (shape.same.honest ∙ h)).no_memory (refused_so e NoMemory told) in
+    record {
+      shape = s;
+      has = subst (λ k. HasShape k seen s) c.if-geometry.false (shape.found h);
+      root = found.0;
+      newest = subst (λ i. IsNewest s i found.0) (shape.same.seen h) found.1;
+    }
+
+pub returns-in_err-journal-clause-no_memory : goal.returns-in_err-journal-clause-no_memory
+returns-in_err-journal-clause-no_memory g c = λ h is.
+    let s = c.in_ok-geometry.geometry.shape in
+    let seen = g.D.Disk.seen c.args.disk.now in
+    let shape = c.in_ok-geometry.ensures in
+    let whole = subst (λ i. IsNewestWhole s (whole_of c.in_ok-root.root) i) (shape.same.seen h) ((c.in_ok-root.ensures.tells (shape.same.honest ∙ h)).found) in
+    record {
+      shape = s;
+      has = subst (λ k. HasShape k seen s) c.if-geometry.false (shape.found h);
+      root = (whole_of c.in_ok-root.root).fields;
+      newest = whole.newest;
+    }
+
+pub returns-in-Err-clause-no_memory : goal.returns-in-Err-clause-no_memory
+returns-in-Err-clause-no_memory g c = λ h is.
+    let s = c.in_ok-geometry.geometry.shape in
+    let seen = g.D.Disk.seen c.args.disk.now in
+    let shape = c.in_ok-geometry.ensures in
+    let whole = subst (λ i. IsNewestWhole s (whole_of c.in_ok-root.root) i) (shape.same.seen h) ((c.in_ok-root.ensures.tells (shape.same.honest ∙ h)).found) in
+    record {
+      shape = s;
+      has = subst (λ k. HasShape k seen s) c.if-geometry.false (shape.found h);
+      root = (whole_of c.in_ok-root.root).fields;
+      newest = whole.newest;
+    }
