@@ -53,6 +53,11 @@ pub record BeginsWhole (image : List ℕ) (s : Shape) : Type 0 where
   pub spelled : SpellsShape (page_of 0 image) s
   pub long : file_pages s * PAGE_BYTES ≤ length image
 
+-- an image begins with some shape, and all pages of the shape are there
+pub record BeginsWithShape (image : List ℕ) : Type 0 where
+  pub shape : Shape
+  pub begins : BeginsWhole image shape
+
 -- an image begins with a shape and has all its pages, but page 1, which is named, begins with other bytes than page 0
 pub record IsUneven (image : List ℕ) (page : ℕ) : Type 0 where
   pub shape : Shape

@@ -2,14 +2,13 @@
 ghost use Rattle.std.specs.Prelude.{◌≡◌, ◌⊎◌, ◌↔◌, ◌≤◌, ◌+◌, ◌*◌, ℕ, List, IsTrue, IfOk, IfErr, OnErr, length, take};
 ghost use Rattle.grid_types.specs.declared.sizes.TheConstants.{PAGE_BYTES};
 ghost use Rattle.grid_types.specs.declared.refusal.Refusal.TheVariants.{ReadFault};
-ghost use Rattle.grid_types.specs.declared.shape.Shape.{Shape};
 ghost use Rattle.grid_types.specs.Pages.{page_of};
 ghost use Rattle.grid_types.specs.Shapes.{file_pages};
 ghost use Rattle.grid_model.specs.Images.{HasShape};
 ghost use Rattle.root_pages.specs.Headers.{SpellsShape};
 ghost use Rattle.disk_trait.specs.Calls.{OnlyReads, HasCauses};
 ghost use Rattle.file_roots.specs.Reading.{TakesSteps};
-ghost use Rattle.recovery.specs.Beginnings.{BeginsAsGrid, IsShapeFault, BeginsWhole};
+ghost use Rattle.recovery.specs.Beginnings.{BeginsAsGrid, IsShapeFault, BeginsWithShape};
 ghost use Rattle.recovery.specs.Refusals.{TellsShape, MayRefuseShape};
 
 use disk_trait::{Disk, Steps, read_page};
@@ -75,7 +74,7 @@ pub fn read_shape<D: Disk, L: Ledger>(
         → IfErr result (λ e. (e ≡ ReadFault) ⊎ IsShapeFault (D.seen disk.old) e) }
     ensures before { IsTrue (D.honest disk.old)
         → steps.new ≡ steps.old + 2
-        → OnErr result ((s : Shape) × BeginsWhole (D.seen disk.old) s) }
+        → OnErr result (BeginsWithShape (D.seen disk.old)) }
     ensures same { OnlyReads D.Disk disk.old disk.new }
     ensures causes { HasCauses D.Disk MayRefuseShape disk.old disk.new result }
     ensures ticks { TakesSteps 2 steps.old steps.new result }

@@ -120,7 +120,7 @@ returns-in_err-geometry-clause-before g c = λ h is n e.
     let shape = c.in_err-geometry.ensures in
     elim (one-of-two n (omega (arith, e, shape.ticks.most))) [
       | inl none ↦ good_none seen n none
-      | inr one ↦ let begun = shape.before h (omega (arith, e, one)) in good_first seen n begun.0 one begun.1
+      | inr one ↦ let begun = shape.before h (omega (arith, e, one)) in good_first seen n begun.shape one begun.begins
     ]
 
 pub returns-in_err-root-clause-before : goal.returns-in_err-root-clause-before
