@@ -1,0 +1,5 @@
+pub mod Entries
+pub mod FieldByField
+pub mod Numbered
+pub mod Growing
+pub mod Wholes

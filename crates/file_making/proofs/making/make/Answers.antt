@@ -1,0 +1,34 @@
+use Rattle.std.proofs.Common.{◌≡◌, ◌≤◌, ◌*◌, ◌∙◌, ℕ, List, length, refl, sym, subst, arith}
+use Rattle.std.proofs.lemmas.Result.{on_ok_weaker}
+use Rattle.grid_types.specs.declared.shape.Shape.{Shape}
+use Rattle.grid_types.specs.Shapes.{file_pages}
+use Rattle.file_roots.proofs.Outcomes.{on_ok_also, on_ok_both}
+use Rattle.file_images.specs.NewFiles.{IsNewFile}
+use Rattle.file_images.proofs.NewFile.{new_means}
+use Rattle.file_making.specs.NewPages.{HasNewPages}
+use Rattle.file_making.proofs.Wholes.{is_new}
+use Rattle.file_making.proofs.making.make.Goals as goal
+
+pub returns-clause-pages : goal.returns-clause-pages
+returns-clause-pages g c = λ h.
+    let image = g.D.Disk.seen c.write_file.new.disk in
+    on_ok_also c.write_file.result c.map_err.result c.map_err.ensures.variant (λ pages. subst (λ (s : Shape). HasNewPages s.k s image) c.in-Some.ensures.value pages) (c.write_file.ensures.pages h)
+
+pub returns-clause-made : goal.returns-clause-made
+returns-clause-made g c = λ h.
+    let made = c.in-Some.geometry in
+    let image = g.D.Disk.seen c.write_file.new.disk in
+    let room = c.fits.ensures.0 c.if-not-fits.false in
+    let whole : length image ≡ g.D.Disk.extent c.write_file.new.disk = g.met.D.Disk.whole c.write_file.new.disk (c.write_file.ensures.changes.honest ∙ h) in
+    let long : file_pages made.shape * 4096 ≤ length image = omega (arith, room, c.size.ensures, whole, c.write_file.ensures.changes.extent) in
+    on_ok_also c.write_file.result c.map_err.result c.map_err.ensures.variant
+    (λ pages. subst (λ (s : Shape). IsNewFile s.k s image) c.in-Some.ensures.value (is_new made.shape.k made.shape image made.lawful refl long pages)) (c.write_file.ensures.pages h)
+
+pub returns-clause-means : goal.returns-clause-means
+returns-clause-means g c = λ h. on_ok_weaker c.map_err.result (λ made. new_means c.args.shape.now.k c.args.shape.now (g.D.Disk.seen c.write_file.new.disk) made) (returns-clause-made g c h)
+
+pub returns-clause-crash : goal.returns-clause-crash
+returns-clause-crash g c = λ h.
+    let told = c.write_file.ensures.changes.honest ∙ h in
+    on_ok_both c.map_err.result (λ made synced k now. subst (λ (image : List ℕ). IsNewFile c.args.shape.now.k c.args.shape.now image) (sym (synced.only told k now)) made)
+    (returns-clause-made g c h) (on_ok_also c.write_file.result c.map_err.result c.map_err.ensures.variant (λ synced. synced) c.write_file.ensures.durable)

@@ -1,0 +1,4 @@
+use Rattle.file_making.proofs.tests.files_are_made.Given as goal
+
+abbrev pub ghosts-try_all : goal.ghosts-try_all
+ghosts-try_all g a = record { name = a.blank.name; parts = a.blank.parts }

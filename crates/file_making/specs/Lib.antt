@@ -1,0 +1,3 @@
+pub mod NewPages
+pub mod Contents
+pub mod Making
