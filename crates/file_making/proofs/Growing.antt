@@ -1,9 +1,9 @@
 -- Pages that are written in their order.
-use Rattle.std.proofs.Common.{◌≡◌, ◌<◌, ◌≤◌, ◌⊎◌, inl, inr, ◌+◌, ◌*◌, ℕ, List, IsTrue, sym, ap, ◌∙◌, arith}
+use Rattle.std.proofs.Common.{◌≡◌, ◌<◌, ◌⊎◌, inl, inr, ◌+◌, ◌*◌, ℕ, List, IsTrue, sym, ap, ◌∙◌, arith}
 use Rattle.grid_types.specs.declared.shape.Shape.{Shape}
 use Rattle.grid_types.specs.declared.sizes.TheConstants.{PAGE_BYTES}
 use Rattle.grid_types.specs.Pages.{page_of}
-use Rattle.grid_types.specs.Shapes.{is_shape, file_pages, data_page}
+use Rattle.grid_types.specs.Shapes.{is_shape, file_pages}
 use Rattle.grid_types.specs.FilePages.{FilePage, HeaderPage, AreaPage, GatePage, SlotPage, DataPage, page_number, HasPage}
 use Rattle.grid_types.proofs.Places.{within-limits, table-page-lies, gate-page-lies, slot-page-lies, data-page-lies, data-page-is, area-small}
 use Rattle.disk_trait.specs.Disk.{Agrees}

@@ -1,4 +1,4 @@
-use Rattle.std.proofs.Common.{◌*◌, ◌-◌, take, ap, ◌∙◌, List, ℕ, arith}
+use Rattle.std.proofs.Common.{◌*◌, ◌-◌, take, ap, ◌∙◌, arith}
 use Rattle.grid_model.specs.Spellings.{bucket_table_spelling}
 use Rattle.file_making.proofs.Entries.{entries_there}
 use Rattle.file_making.proofs.area.encode_buckets.Goals as goal

@@ -1,4 +1,4 @@
-use Rattle.std.proofs.Common.{◌≡◌, ◌≤◌, replicate}
+use Rattle.std.proofs.Common.{◌≡◌, replicate}
 use Rattle.file_making.proofs.headers.no_boundaries.Given as goal
 
 abbrev pub invariant-loop-a : goal.invariant-loop-a

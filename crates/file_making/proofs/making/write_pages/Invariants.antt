@@ -1,4 +1,4 @@
-use Rattle.std.proofs.Common.{◌≤◌, ℕ, IsTrue}
+use Rattle.std.proofs.Common.{IsTrue}
 use Rattle.disk_trait.specs.Calls.{Changes}
 use Rattle.file_making.specs.Making.{FileAlone}
 use Rattle.file_making.proofs.Growing.{PagesBelow}

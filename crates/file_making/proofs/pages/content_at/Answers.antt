@@ -1,4 +1,4 @@
-use Rattle.std.proofs.Common.{◌≡◌, ◌≤◌, ◌<◌, ◌+◌, ◌-◌, sym, arith}
+use Rattle.std.proofs.Common.{◌≡◌, ◌≤◌, ◌<◌, ◌-◌, sym, arith}
 use Rattle.grid_types.specs.Shapes.{area_pages, table_page}
 use Rattle.grid_types.specs.FilePages.{HeaderPage, AreaPage}
 use Rattle.grid_types.proofs.Places.{table-page}
