@@ -6,8 +6,8 @@ ghost use Rattle.grid_types.specs.Shapes.{file_pages};
 ghost use Rattle.disk_trait.specs.Causes.{HasCause};
 ghost use Rattle.disk_trait.specs.Calls.{Changes, IsSynced, HasCauses};
 ghost use Rattle.disk_trait.specs.Moments.{Always};
-ghost use Rattle.file_images.specs.Leads.{HasMeaning};
-ghost use Rattle.file_images.specs.NewFiles.{IsNewFile, new_meaning};
+ghost use Rattle.file_images.specs.Leads.{HasStanding};
+ghost use Rattle.file_images.specs.NewFiles.{IsNewFile, new_standing};
 ghost use Rattle.file_making.specs.NewPages.{HasNewPages};
 ghost use Rattle.file_making.specs.Making.{CanNotBeMade, FileAlone};
 
@@ -60,8 +60,8 @@ pub fn make<D: Disk>(disk: &mut D, shape: &Shape) -> Result<(), Refusal>
         → OnOk result (HasNewPages shape.now.k shape.now (D.seen disk.new)) }
     ensures made { IsTrue (D.honest disk.old)
         → OnOk result (IsNewFile shape.now.k shape.now (D.seen disk.new)) }
-    ensures means { IsTrue (D.honest disk.old)
-        → OnOk result (HasMeaning (D.seen disk.new) (new_meaning shape.now.k)) }
+    ensures stands { IsTrue (D.honest disk.old)
+        → OnOk result (HasStanding (D.seen disk.new) (new_standing shape.now.k)) }
     ensures crash { IsTrue (D.honest disk.old)
         → OnOk result (Always (D.may_leave disk.new) (IsNewFile shape.now.k shape.now)) }
     ensures durable { OnOk result (IsSynced D.Disk disk.new) }

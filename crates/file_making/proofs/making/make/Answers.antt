@@ -4,7 +4,7 @@ use Rattle.grid_types.specs.declared.shape.Shape.{Shape}
 use Rattle.grid_types.specs.Shapes.{file_pages}
 use Rattle.file_roots.proofs.Outcomes.{on_ok_also, on_ok_both}
 use Rattle.file_images.specs.NewFiles.{IsNewFile}
-use Rattle.file_images.proofs.NewFile.{new_means}
+use Rattle.file_images.proofs.NewFile.{new_has_standing}
 use Rattle.file_making.specs.NewPages.{HasNewPages}
 use Rattle.file_making.proofs.Wholes.{is_new}
 use Rattle.file_making.proofs.making.make.Goals as goal
@@ -24,8 +24,8 @@ returns-clause-made g c = λ h.
     on_ok_also c.write_file.result c.map_err.result c.map_err.ensures.variant
     (λ pages. subst (λ (s : Shape). IsNewFile s.k s image) c.in-Some.ensures.value (is_new made.shape.k made.shape image made.lawful refl long pages)) (c.write_file.ensures.pages h)
 
-pub returns-clause-means : goal.returns-clause-means
-returns-clause-means g c = λ h. on_ok_weaker c.map_err.result (λ made. new_means c.args.shape.now.k c.args.shape.now (g.D.Disk.seen c.write_file.new.disk) made) (returns-clause-made g c h)
+pub returns-clause-stands : goal.returns-clause-stands
+returns-clause-stands g c = λ h. on_ok_weaker c.map_err.result (λ made. new_has_standing c.args.shape.now.k c.args.shape.now (g.D.Disk.seen c.write_file.new.disk) made) (returns-clause-made g c h)
 
 pub returns-clause-crash : goal.returns-clause-crash
 returns-clause-crash g c = λ h.
