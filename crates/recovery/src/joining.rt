@@ -41,7 +41,8 @@ fn first_on<const K: usize>(batches: &[Batch<K>], place: u64) -> Option<usize>
 /// Takes a batch out of a list; an empty one stands there then, so that the others keep their order.
 fn take_out<const K: usize>(batches: &mut Vec<Batch<K>>, i: usize) -> Batch<K>
     requires { i < length batches.old.items }
-    ensures taken { batch_of result ≡ slice_index_or (map batch_of batches.old.items) i empty_batch }
+    ensures taken { batch_of result
+        ≡ slice_index_or (map batch_of batches.old.items) i empty_batch }
     ensures left { map batch_of batches.new.items
         ≡ slice_set (map batch_of batches.old.items) i empty_batch }
 {
