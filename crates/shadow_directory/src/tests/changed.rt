@@ -41,7 +41,8 @@ fn pages_of<const K: usize>(
     dims: &Dims<K>,
     calls: u32,
 ) -> Result<ListPages, AllocError>
-    ensures parts { IfOk result (λ p. length p.before.items ≡ word_pages (product dims.now.intervals)) }
+    ensures parts { IfOk result
+        (λ p. length p.before.items ≡ word_pages (product dims.now.intervals)) }
     ensures room { IfOk result (λ p. p.room ≡ 2000) }
 {
     let mut before = Vec::new(alloc);
