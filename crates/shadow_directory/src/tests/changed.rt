@@ -202,7 +202,7 @@ fn comes<const K: usize, L: Ledger>(
     Ok(is_right && (told, pages.reads, pages.written.len()) == expected)
 }
 
-/// Whether directories of one to three attributes grow.
+/// Whether directories of one and two attributes grow.
 #[tactic(auto, using(grid_cells::proofs::Literals::literal))]
 fn they_grow<L: Ledger>(alloc: Global, blank: Blank) -> Result<bool, Fail>
     requires name { blank.name ≡ L.name }
@@ -238,7 +238,18 @@ fn they_grow<L: Ledger>(alloc: Global, blank: Blank) -> Result<bool, Fail>
         bucket,
     };
     let plane = comes(alloc, (&old, &new, &change, 9), (Ok(()), 3, 5), &mut steps)?;
-    let (attribute, interval) = (0, 0);
+    Ok(line && plane)
+}
+
+/// Whether a directory of three attributes grows.
+#[tactic(auto, using(grid_cells::proofs::Literals::literal))]
+fn they_grow_in_space<L: Ledger>(alloc: Global, blank: Blank) -> Result<bool, Fail>
+    requires name { blank.name ≡ L.name }
+    requires shares { blank.parts ≡ L.parts }
+    requires some { 0 < L.parts }
+{
+    let mut steps = Steps::<L>::new(blank);
+    let (attribute, interval, bucket) = (0, 0, 70000);
     let intervals = [3, 10, 100];
     let old = Dims { intervals };
     let intervals = [4, 10, 100];
@@ -251,8 +262,7 @@ fn they_grow<L: Ledger>(alloc: Global, blank: Blank) -> Result<bool, Fail>
         cells,
         bucket,
     };
-    let space = comes(alloc, (&old, &new, &change, 9), (Ok(()), 3, 5), &mut steps)?;
-    Ok(line && plane && space)
+    comes(alloc, (&old, &new, &change, 9), (Ok(()), 3, 5), &mut steps)
 }
 
 /// Whether boxes that lie on several parts are patched, and each call that fails is told.
@@ -300,6 +310,7 @@ fn they_are_patched<L: Ledger>(alloc: Global, blank: Blank) -> Result<bool, Fail
 #[test]
 fn directories_grow(rt: HostRuntime) -> Result<(), Fail> {
     assert!(rt; they_grow::<Brand>(rt.alloc(), Blank::new(1))?);
+    assert!(rt; they_grow_in_space::<Brand>(rt.alloc(), Blank::new(1))?);
     Ok(())
 }
 
