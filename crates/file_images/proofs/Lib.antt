@@ -26,4 +26,5 @@ pub mod PagesLeading
 pub mod RootMoments
 pub mod NewFile
 pub mod NewImage
+pub mod Crashes
 mod Rows

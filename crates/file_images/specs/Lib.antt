@@ -11,3 +11,4 @@ pub mod KeptLaws
 pub mod NewFiles
 pub mod MeetingLaws
 pub mod LeadingLaws
+pub mod CrashRows
