@@ -1,23 +1,20 @@
 -- What a crash leaves of a file at the moments that matter most.
-use Rattle.std.proofs.Common.{◌≡◌, ◌<◌, ◌⊎◌, inl, inr, ℕ, List, ap, sym, subst, Bool, true, false, true≢false, arith}
+use Rattle.std.proofs.Common.{◌≡◌, ◌<◌, ◌⊎◌, inl, inr, ℕ, List, ap, refl, sym, subst, Bool, true, false, true≢false, ◌∙◌, arith}
 use Rattle.grid_types.specs.declared.shape.Shape.{Shape}
 use Rattle.grid_model.specs.Spellings.{LoggedBatch}
 use Rattle.journal_slots.specs.Committing.{BatchStep}
 use Rattle.file_images.specs.Kept.{NextSlot, Shut, Flying, InDoubt, Kept, used}
 use Rattle.file_images.specs.Shows.{Shows}
-use Rattle.file_images.specs.Steps.{IsNextSlot, with_doubt}
-use Rattle.file_images.specs.Leads.{Standing, HasStanding, behind, Leads, HasStandingOrBehind}
+use Rattle.file_images.specs.Steps.{IsNextSlot, with_doubt, with_closed, with_tried}
+use Rattle.file_images.specs.Leads.{Standing, HasStanding, behind, RootLeads, Leads, HasStandingOrBehind}
 use Rattle.file_images.proofs.Committing.{step_shows}
 use Rattle.file_images.proofs.Standings.{shows_stands}
-
-abbrev doubted_by : {K : ℕ} → LoggedBatch K → NextSlot K → LoggedBatch K
-doubted_by b Shut = b
-doubted_by b Flying = b
-doubted_by b (InDoubt d) = d
-
--- the batch in doubt is none but this one
-one_doubt : {K : ℕ} (b d : LoggedBatch K) → ◌≡◌ {A = NextSlot K} (InDoubt b) (InDoubt d) → b ≡ d
-one_doubt b d e = ap (doubted_by b) e
+use Rattle.file_images.specs.CrashRows.{with_two, behind_two}
+use Rattle.grid_model.specs.Roots.{WholeRoot}
+use Rattle.file_images.proofs.Histories.{shut_no_doubt, shut_not_flying}
+use Rattle.file_images.proofs.Leading.{leads_closed, leads_tried}
+use Rattle.file_images.proofs.TwoPlaced.{one_doubt}
+use Rattle.std.specs.Prelude.{Some}
 
 pub doubt_not_flying : {K : ℕ} (b : LoggedBatch K) → ◌≡◌ {A = NextSlot K} (InDoubt b) Flying → ⊥
 doubt_not_flying {K} b e = true≢false (ap is_doubt e)
@@ -44,3 +41,19 @@ published_stands {K} k s half slot b m old new is inside leads was step = whole_
         subst (λ (t : Shape). BatchStep t k.half (used k k.half) b old new) (sym is.shape)
         (subst (λ (h : ℕ). BatchStep s h (used k k.half) b old new) (sym is.half_is)
         (subst (λ (i : ℕ). BatchStep s half i b old new) (sym is.slot_is) step))
+
+-- an image that shows what is kept, where nothing is on the next slot, has the standing to which that leads
+pub stands_there : {K : ℕ} (k : Kept K) (m : Standing K) (image : List ℕ) → k.next ≡ Shut → Leads k m → Shows k image → HasStanding image m
+stands_there k m image shut leads was = by (shows_stands k image m was (λ e. shut_not_flying (sym shut ∙ e)) leads)
+  where
+    by : HasStandingOrBehind k image m → HasStanding image m
+    by (inl stands) = stands
+    by (inr (d, e, after)) = shut_no_doubt d (sym shut ∙ e)
+
+-- before the new root, with its header page closed, or over one that was tried
+pub closed_stands : {K : ℕ} (k : Kept K) (m : Standing K) (b c : LoggedBatch K) (image : List ℕ) → Leads (with_two k b c) (behind_two m b c) → Shows (with_closed (with_two k b c)) image → HasStanding image (behind_two m b c)
+closed_stands k m b c image leads was = stands_there (with_closed (with_two k b c)) (behind_two m b c) image refl (leads_closed (with_two k b c) (behind_two m b c) leads) was
+
+pub tried_stands : {K : ℕ} (k : Kept K) (m : Standing K) (b c : LoggedBatch K) (w : WholeRoot) (image : List ℕ)
+    → Leads (with_two k b c) (behind_two m b c) → RootLeads (with_two k b c) w (behind_two m b c) → Shows (with_tried (with_two k b c) (Some w)) image → HasStanding image (behind_two m b c)
+tried_stands k m b c w image leads new was = stands_there (with_tried (with_two k b c) (Some w)) (behind_two m b c) image refl (leads_tried (with_two k b c) (behind_two m b c) w new leads) was

@@ -26,5 +26,6 @@ pub mod PagesLeading
 pub mod RootMoments
 pub mod NewFile
 pub mod NewImage
+pub mod TwoPlaced
 pub mod Crashes
 mod Rows

@@ -1,13 +1,34 @@
 -- What a crash leaves of a file at the moments that matter most: each row is composed of the laws.
-use Rattle.std.specs.Prelude.{◌⊎◌, ◌<◌, ℕ, List}
+use Rattle.std.specs.Prelude.{◌⊎◌, ◌<◌, ◌+◌, ℕ, List, [], ◌∷◌, ◌++◌, length, Some}
 use Rattle.grid_types.specs.declared.shape.Shape.{Shape}
 use Rattle.grid_model.specs.Spellings.{LoggedBatch}
+use Rattle.grid_model.specs.Roots.{WholeRoot}
 use Rattle.journal_slots.specs.Committing.{BatchStep}
-use Rattle.file_images.specs.Kept.{Kept}
+use Rattle.file_images.specs.Kept.{MayBeNewest, Kept}
 use Rattle.file_images.specs.Shows.{Shows}
-use Rattle.file_images.specs.Steps.{IsNextSlot, with_doubt}
-use Rattle.file_images.specs.Leads.{Standing, HasStanding, behind, Leads}
+use Rattle.file_images.specs.Steps.{IsNextSlot, with_doubt, with_slot, with_turned, with_closed, with_tried}
+use Rattle.file_images.specs.Leads.{Standing, HasStanding, behind, MayFollow, RootLeads, Leads}
+use Rattle.file_images.specs.LeadingLaws.{NoneBeyond, MayFollowEach}
 
--- a crash between the write of a gate and its sync leaves the batch as a whole or nothing of it: each image that a step of its commit leaves has the standing from before it, or the one behind it
+-- the halves' roles are exchanged, and two batches count, one behind the other, on the half that is current now
+abbrev pub with_two : {K : ℕ} → Kept K → LoggedBatch K → LoggedBatch K → Kept K
+with_two k b c = with_slot (with_slot (with_turned k) b) c
+
+-- the standing behind two batches
+abbrev pub behind_two : {K : ℕ} → Standing K → LoggedBatch K → LoggedBatch K → Standing K
+behind_two m b c = behind (behind m b) c
+
+-- two batches may follow one behind the other, neither empty: no batch on a slot begins beyond the place; and whatever root is the newest, the first may follow at the place, and the second behind the first
+pub record MayBothFollow {K : ℕ} (k : Kept K) (m : Standing K) (leads : Leads k m) (b c : LoggedBatch K) : Type 0 where
+  pub none : NoneBeyond k m.place
+  pub some : 0 < length b.updates
+  pub some_more : 0 < length c.updates
+  pub first : MayFollowEach k m leads b
+  pub second : (w : WholeRoot) (is : MayBeNewest k w) → MayFollow k w (leads w is).layout (leads w is).table ((leads w is).taken ++ b ∷ []) (m.place + length b.updates) c
+
+-- a crash between the write of a gate and its sync leaves the batch as a whole or nothing of it; two batches that may follow, on the half that was taken since, lead to the standing behind both; and that is what a crash before the new root leaves, with the other header page closed, or loose over a root that leads there too
 pub record CrashRows (K : ℕ) : Type 0 where
   pub published : (k : Kept K) (s : Shape) (half slot : ℕ) (b : LoggedBatch K) (m : Standing K) (old new : List ℕ) → IsNextSlot k s half slot → slot < s.slots → Leads (with_doubt k b) m → Shows k old → BatchStep s half slot b old new → HasStanding new m ⊎ HasStanding new (behind m b)
+  pub both_lead : (k : Kept K) (m : Standing K) (b c : LoggedBatch K) (leads : Leads k m) → MayBothFollow k m leads b c → Leads (with_two k b c) (behind_two m b c)
+  pub closed : (k : Kept K) (m : Standing K) (b c : LoggedBatch K) (image : List ℕ) → Leads (with_two k b c) (behind_two m b c) → Shows (with_closed (with_two k b c)) image → HasStanding image (behind_two m b c)
+  pub tried : (k : Kept K) (m : Standing K) (b c : LoggedBatch K) (w : WholeRoot) (image : List ℕ) → Leads (with_two k b c) (behind_two m b c) → RootLeads (with_two k b c) w (behind_two m b c) → Shows (with_tried (with_two k b c) (Some w)) image → HasStanding image (behind_two m b c)
