@@ -1,22 +1,24 @@
 -- What a crash leaves of a file at the moments that matter most.
 use Rattle.std.proofs.Common.{◌≡◌, ◌<◌, ◌⊎◌, inl, inr, ℕ, List, ap, refl, sym, subst, Bool, true, false, true≢false, ◌∙◌, arith}
+use Rattle.std.specs.Prelude.{Some}
 use Rattle.grid_types.specs.declared.shape.Shape.{Shape}
 use Rattle.grid_model.specs.Spellings.{LoggedBatch}
+use Rattle.grid_model.specs.Roots.{WholeRoot}
 use Rattle.journal_slots.specs.Committing.{BatchStep}
 use Rattle.file_images.specs.Kept.{NextSlot, Shut, Flying, InDoubt, Kept, used}
 use Rattle.file_images.specs.Shows.{Shows}
-use Rattle.file_images.specs.Steps.{IsNextSlot, with_doubt, with_closed, with_tried}
-use Rattle.file_images.specs.Leads.{Standing, HasStanding, behind, RootLeads, Leads, HasStandingOrBehind}
+use Rattle.file_images.specs.Steps.{IsNextSlot, with_doubt, with_closed, with_tried, with_root, with_loose}
+use Rattle.file_images.specs.Leads.{Standing, HasStanding, behind, Leads, HasStandingOrBehind}
+use Rattle.file_images.specs.LeadingLaws.{IsBehind}
+use Rattle.file_images.specs.CrashRows.{with_two, behind_two}
 use Rattle.file_images.proofs.Committing.{step_shows}
 use Rattle.file_images.proofs.Standings.{shows_stands}
-use Rattle.file_images.specs.CrashRows.{with_two, behind_two}
-use Rattle.grid_model.specs.Roots.{WholeRoot}
 use Rattle.file_images.proofs.Histories.{shut_no_doubt, shut_not_flying}
-use Rattle.file_images.proofs.Leading.{leads_closed, leads_tried}
+use Rattle.file_images.proofs.Leading.{leads_closed, leads_rooted, leads_loosened}
 use Rattle.file_images.proofs.TwoPlaced.{one_doubt}
-use Rattle.std.specs.Prelude.{Some}
 
-pub doubt_not_flying : {K : ℕ} (b : LoggedBatch K) → ◌≡◌ {A = NextSlot K} (InDoubt b) Flying → ⊥
+-- a batch in doubt is not one that is just written
+doubt_not_flying : {K : ℕ} (b : LoggedBatch K) → ◌≡◌ {A = NextSlot K} (InDoubt b) Flying → ⊥
 doubt_not_flying {K} b e = true≢false (ap is_doubt e)
   where
     is_doubt : NextSlot K → Bool
@@ -55,5 +57,19 @@ pub closed_stands : {K : ℕ} (k : Kept K) (m : Standing K) (b c : LoggedBatch K
 closed_stands k m b c image leads was = stands_there (with_closed (with_two k b c)) (behind_two m b c) image refl (leads_closed (with_two k b c) (behind_two m b c) leads) was
 
 pub tried_stands : {K : ℕ} (k : Kept K) (m : Standing K) (b c : LoggedBatch K) (w : WholeRoot) (image : List ℕ)
-    → Leads (with_two k b c) (behind_two m b c) → RootLeads (with_two k b c) w (behind_two m b c) → Shows (with_tried (with_two k b c) (Some w)) image → HasStanding image (behind_two m b c)
-tried_stands k m b c w image leads new was = stands_there (with_tried (with_two k b c) (Some w)) (behind_two m b c) image refl (leads_tried (with_two k b c) (behind_two m b c) w new leads) was
+    → Leads (with_tried (with_two k b c) (Some w)) (behind_two m b c) → Shows (with_tried (with_two k b c) (Some w)) image → HasStanding image (behind_two m b c)
+tried_stands k m b c w image leads was = stands_there (with_tried (with_two k b c) (Some w)) (behind_two m b c) image refl leads was
+
+-- once the new root is placed, all leads there
+root_leads : {K : ℕ} (k : Kept K) (n : Standing K) (w : WholeRoot) → Leads (with_tried k (Some w)) n → Leads (with_root k w) n
+root_leads k n w leads = leads_rooted (with_tried k (Some w)) n w (inr refl) leads
+
+-- after the new root and before the clearing, with the other half's gates as they were, or loosened
+pub rooted_stands : {K : ℕ} (k : Kept K) (m : Standing K) (b c : LoggedBatch K) (w : WholeRoot) (image : List ℕ)
+    → Leads (with_tried (with_two k b c) (Some w)) (behind_two m b c) → Shows (with_root (with_two k b c) w) image → HasStanding image (behind_two m b c)
+rooted_stands k m b c w image leads was = stands_there (with_root (with_two k b c) w) (behind_two m b c) image refl (root_leads (with_two k b c) (behind_two m b c) w leads) was
+
+pub loosened_stands : {K : ℕ} (k : Kept K) (m : Standing K) (b c : LoggedBatch K) (w : WholeRoot) (image : List ℕ) → k.half < 2
+    → Leads (with_tried (with_two k b c) (Some w)) (behind_two m b c) → IsBehind (with_root (with_two k b c) w) k.half → Shows (with_loose (with_root (with_two k b c) w) k.half) image → HasStanding image (behind_two m b c)
+loosened_stands k m b c w image two leads behind_all was =
+    stands_there (with_loose (with_root (with_two k b c) w) k.half) (behind_two m b c) image refl (leads_loosened (with_root (with_two k b c) w) k.half (behind_two m b c) two behind_all (root_leads (with_two k b c) (behind_two m b c) w leads)) was
