@@ -15,3 +15,4 @@ pub mod Wholly
 pub mod Queried
 pub mod Counts
 pub mod Listed
+pub mod TwoScales

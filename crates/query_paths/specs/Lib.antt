@@ -4,3 +4,4 @@ pub mod Paths
 pub mod Readings
 pub mod Gathering
 pub mod Walks
+pub mod InMemory

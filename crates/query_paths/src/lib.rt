@@ -6,9 +6,13 @@ mod gathering;
 mod getting;
 mod listing;
 mod marks;
+#[cfg(test)]
+mod pages_in_memory;
 mod pinned;
 mod reading;
 mod room;
+#[cfg(test)]
+mod tests;
 mod walking;
 
 pub use counting::count_rows;
