@@ -3,3 +3,4 @@ pub mod PageLaws
 pub mod SpellingLaws
 pub mod HistoryLaws
 pub mod HoldingLaws
+pub mod NewPages

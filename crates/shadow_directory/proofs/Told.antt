@@ -35,7 +35,8 @@ use Rattle.directory_changes.proofs.Lawful.{lawful-scale}
 use Rattle.directory_changes.proofs.Renewed.{same-parts}
 use Rattle.history_pages.proofs.Renewed.{new-page}
 use Rattle.shadow_directory.specs.declared.buckets.NewBucket.{NewBucket}
-use Rattle.shadow_directory.specs.NewPages.{bucket_pages, part_pages, new_page, new_pages}
+use Rattle.history_pages.specs.NewPages.{new_page, new_pages}
+use Rattle.shadow_directory.specs.NewPages.{bucket_pages, part_pages}
 use Rattle.shadow_directory.specs.declared.pages.ChangePages.{Ghosts}
 use Rattle.shadow_directory.specs.Calls.{Tells, TellsPages}
 use Rattle.shadow_directory.specs.Directories.{IsPartAfter, AreAfter, SpellDirectory}

@@ -16,7 +16,8 @@ ghost use Rattle.directory_changes.specs.Changes.{directory_change, parts_after,
 ghost use Rattle.shadow_directory.specs.Pages.{BeganFor};
 ghost use Rattle.shadow_directory.specs.Calls.{Keeps, Tells, TellsPages, Holds, IsCause, IsFault, WrotePart};
 ghost use Rattle.shadow_directory.specs.Directories.{IsPartAfter, AreAfter};
-ghost use Rattle.shadow_directory.specs.NewPages.{new_page, new_pages, bucket_pages, part_pages, WroteParts, WroteChange};
+ghost use Rattle.history_pages.specs.NewPages.{new_page, new_pages};
+ghost use Rattle.shadow_directory.specs.NewPages.{bucket_pages, part_pages, WroteParts, WroteChange};
 
 use crate::growing::grow_part;
 use crate::patching::patch_part;
