@@ -4,3 +4,4 @@ pub mod SpellingLaws
 pub mod HistoryLaws
 pub mod HoldingLaws
 pub mod NewPages
+pub mod KnownPages

@@ -20,9 +20,7 @@ use Rattle.page_states.specs.declared.page_state.PageState.{PageState}
 use Rattle.page_states.specs.Current.{TellsPages}
 use Rattle.page_states.specs.Changes.{ArePublishable}
 use Rattle.page_states.specs.Effects.{free_pages, claim_all, given_back, swept}
-use Rattle.file_images.specs.Kept.{Kept}
-use Rattle.file_images.specs.Leads.{RootHolds}
-use Rattle.file_images.specs.Steps.{settle_page, ask_nothing}
+use Rattle.history_pages.specs.KnownPages.{settle_page, ask_nothing, AreaHolds}
 use Rattle.layout_pages.specs.Holding.{HoldLayout, IsCurrentAt, NamesCurrent, named_by, is_live}
 use Rattle.layout_pages.specs.Steps.{opened_states, published_states, owners_renewed, gone_pages}
 
@@ -31,10 +29,10 @@ pub record ReadAs (fresh : List (Option (List ℕ))) (pages : List ℕ) (written
   pub count : length pages ≡ length written
   pub each : (i : ℕ) (w : Owner × List ℕ) → slice_get written i ≡ Some w → slice_index_or fresh (slice_index pages i) None ≡ Some w.1
 
--- where a root is opened whose pages hold a layout over a table, and nothing is known of other pages, the pages that it names are current at its front and hold that layout and table
+-- where a file is opened whose newest root's pages hold a layout over a table, and nothing is known of other pages, the pages that it names are current at its front and hold that layout and table
 abbrev pub OpeningHolds : ℕ → Type 0
-OpeningHolds K = (k : Kept K) (w : WholeRoot) (L : Layout K) (t : Table) → RootHolds k w L t → IsAreaOf k.shape w.fields w.area → map is_some k.always ≡ map (is_among (named_by w.area)) (below k.shape.pages)
-    → HoldLayout (opened_states k.shape.pages w.fields.front w.area) k.always w.fields.front L t × NamesCurrent w.fields.front (opened_states k.shape.pages w.fields.front w.area) w.area
+OpeningHolds K = (s : Shape) (w : WholeRoot) (always : List (Option (List ℕ))) (L : Layout K) (t : Table) → StandsOver s L t → IsAreaOf s w.fields w.area → AreaHolds always w.area L t → map is_some always ≡ map (is_among (named_by w.area)) (below s.pages)
+    → HoldLayout (opened_states s.pages w.fields.front w.area) always w.fields.front L t × NamesCurrent w.fields.front (opened_states s.pages w.fields.front w.area) w.area
 
 -- a change renews the owners that the model says, in the order in which their pages are written
 abbrev pub RenewsOwners : ℕ → Type 0
@@ -72,7 +70,7 @@ pub record TellsCurrent {K : ℕ} (states : List PageState) (L : Layout K) (a : 
   pub count : length a.parts ≡ parts L.scales
   pub directory : TellsPages Part nowhere states a.parts (length a.parts)
 
--- a root that tells the current pages where these hold a layout over a table is one whose pages hold them; and its pages are current at the front
+-- a table area that tells the current pages, where these hold a layout over a table, names the pages that hold them; and these are current at the front
 abbrev pub CopyHolds : ℕ → Type 0
-CopyHolds K = (k : Kept K) (w : WholeRoot) (states : List PageState) (front : ℕ) (L : Layout K) (t : Table) → StandsOver k.shape L t → length states ≡ k.shape.pages → HoldLayout states k.always front L t → TellsCurrent states L w.area → w.fields.records ≡ length t
-    → RootHolds k w L t × NamesCurrent front states w.area
+CopyHolds K = (s : Shape) (a : Area) (states : List PageState) (always : List (Option (List ℕ))) (front : ℕ) (L : Layout K) (t : Table) → StandsOver s L t → length states ≡ s.pages → HoldLayout states always front L t → TellsCurrent states L a
+    → AreaHolds always a L t × NamesCurrent front states a
