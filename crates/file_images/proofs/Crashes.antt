@@ -1,11 +1,12 @@
 -- What a crash leaves of a file at the moments that matter most.
 use Rattle.std.proofs.Common.{◌≡◌, ◌<◌, ◌⊎◌, inl, inr, ℕ, List, ap, refl, sym, subst, Bool, true, false, true≢false, ◌∙◌, arith}
-use Rattle.std.specs.Prelude.{Some}
+use Rattle.std.specs.Prelude.{Some, None}
 use Rattle.grid_types.specs.declared.shape.Shape.{Shape}
 use Rattle.grid_model.specs.Spellings.{LoggedBatch}
 use Rattle.grid_model.specs.Roots.{WholeRoot}
+use Rattle.grid_model.proofs.Boxes.{some-not-none}
 use Rattle.journal_slots.specs.Committing.{BatchStep}
-use Rattle.file_images.specs.Kept.{NextSlot, Shut, Flying, InDoubt, Kept, used}
+use Rattle.file_images.specs.Kept.{OtherHeader, LooseHeader, IsTried, NextSlot, Shut, Flying, InDoubt, Kept, used}
 use Rattle.file_images.specs.Shows.{Shows}
 use Rattle.file_images.specs.Steps.{IsNextSlot, with_doubt, with_closed, with_tried, with_root, with_loose}
 use Rattle.file_images.specs.Leads.{Standing, HasStanding, behind, Leads, HasStandingOrBehind}
@@ -13,9 +14,8 @@ use Rattle.file_images.specs.LeadingLaws.{IsBehind}
 use Rattle.file_images.specs.CrashRows.{with_two, behind_two}
 use Rattle.file_images.proofs.Committing.{step_shows}
 use Rattle.file_images.proofs.Standings.{shows_stands}
-use Rattle.file_images.proofs.Histories.{shut_no_doubt, shut_not_flying}
+use Rattle.file_images.proofs.Histories.{shut_no_doubt, shut_not_flying, one_doubt}
 use Rattle.file_images.proofs.Leading.{leads_closed, leads_rooted, leads_loosened}
-use Rattle.file_images.proofs.TwoPlaced.{one_doubt}
 
 -- a batch in doubt is not one that is just written
 doubt_not_flying : {K : ℕ} (b : LoggedBatch K) → ◌≡◌ {A = NextSlot K} (InDoubt b) Flying → ⊥
@@ -32,8 +32,8 @@ whole_or_nothing k b m image (inl before) = inl before
 whole_or_nothing k b m image (inr (d, e, after)) = inr (subst (λ (c : LoggedBatch _). HasStanding image (behind m c)) (sym (one_doubt b d e)) after)
 
 -- at each step of a commit on the next slot
-pub published_stands : {K : ℕ} (k : Kept K) (s : Shape) (half slot : ℕ) (b : LoggedBatch K) (m : Standing K) (old new : List ℕ) → IsNextSlot k s half slot → slot < s.slots → Leads (with_doubt k b) m → Shows k old → BatchStep s half slot b old new → HasStanding new m ⊎ HasStanding new (behind m b)
-published_stands {K} k s half slot b m old new is inside leads was step = whole_or_nothing k b m new (shows_stands (with_doubt k b) new m (step_shows k b is.shut room old new was step_there) (doubt_not_flying b) leads)
+pub committed_stands : {K : ℕ} (k : Kept K) (s : Shape) (half slot : ℕ) (b : LoggedBatch K) (m : Standing K) (old new : List ℕ) → IsNextSlot k s half slot → slot < s.slots → Leads (with_doubt k b) m → Shows k old → BatchStep s half slot b old new → HasStanding new m ⊎ HasStanding new (behind m b)
+committed_stands {K} k s half slot b m old new is inside leads was step = whole_or_nothing k b m new (shows_stands (with_doubt k b) new m (step_shows k b is.shut room old new was step_there) (doubt_not_flying b) leads)
   where
     room : used k k.half < k.shape.slots
     room = omega (arith, inside, is.slot_is, ap (λ (t : Shape). t.slots) is.shape)
@@ -69,7 +69,14 @@ pub rooted_stands : {K : ℕ} (k : Kept K) (m : Standing K) (b c : LoggedBatch K
     → Leads (with_tried (with_two k b c) (Some w)) (behind_two m b c) → Shows (with_root (with_two k b c) w) image → HasStanding image (behind_two m b c)
 rooted_stands k m b c w image leads was = stands_there (with_root (with_two k b c) w) (behind_two m b c) image refl (root_leads (with_two k b c) (behind_two m b c) w leads) was
 
+-- a half that the kept root has may be loosened where no other root was tried
+loosened_lead : {K : ℕ} (k : Kept K) (h : ℕ) (n : Standing K) → h < 2 → k.other ≡ LooseHeader None → IsBehind k k.root h → Leads k n → Leads (with_loose k h) n
+loosened_lead {K} k h n two none behind_all leads w (inl e) =
+    let r = leads w (inl e) in
+    record { lineage = r.lineage; along = leads_loosened k h n w r.lineage two (subst (λ (v : WholeRoot). IsBehind k v h) (sym e) behind_all) r.along }
+loosened_lead {K} k h n two none behind_all leads w (inr tried) = absurd (some-not-none w (sym (subst (λ (o : OtherHeader). IsTried o w) none tried)))
+
 pub loosened_stands : {K : ℕ} (k : Kept K) (m : Standing K) (b c : LoggedBatch K) (w : WholeRoot) (image : List ℕ) → k.half < 2
-    → Leads (with_tried (with_two k b c) (Some w)) (behind_two m b c) → IsBehind (with_root (with_two k b c) w) k.half → Shows (with_loose (with_root (with_two k b c) w) k.half) image → HasStanding image (behind_two m b c)
+    → Leads (with_tried (with_two k b c) (Some w)) (behind_two m b c) → IsBehind (with_root (with_two k b c) w) w k.half → Shows (with_loose (with_root (with_two k b c) w) k.half) image → HasStanding image (behind_two m b c)
 loosened_stands k m b c w image two leads behind_all was =
-    stands_there (with_loose (with_root (with_two k b c) w) k.half) (behind_two m b c) image refl (leads_loosened (with_root (with_two k b c) w) k.half (behind_two m b c) two behind_all (root_leads (with_two k b c) (behind_two m b c) w leads)) was
+    stands_there (with_loose (with_root (with_two k b c) w) k.half) (behind_two m b c) image refl (loosened_lead (with_root (with_two k b c) w) k.half (behind_two m b c) two refl behind_all (root_leads (with_two k b c) (behind_two m b c) w leads)) was

@@ -1,7 +1,6 @@
 -- What each step of the journal, and each root, leaves of where what is kept leads.
-use Rattle.std.proofs.Common.{◌≡◌, ◌≢◌, ◌<◌, ◌≤◌, ◌⊎◌, inl, inr, ◌+◌, ◌++◌, ℕ, Bool, true, false, List, [], ◌∷◌, length, refl, sym, ap, subst, ◌∙◌, arith, true≢false}
+use Rattle.std.proofs.Common.{◌≡◌, ◌<◌, ◌≤◌, inl, inr, ◌+◌, ◌++◌, ℕ, Bool, true, false, List, [], ◌∷◌, length, refl, sym, ap, subst, ◌∙◌, arith, true≢false}
 use Rattle.std.specs.Prelude.{slice_get, Some, fold, Contains}
-use Rattle.std.proofs.lemmas.Bool.{cases_eq}
 use Rattle.std.proofs.lemmas.List.{append-nil}
 use Rattle.std.proofs.lemmas.List.Sums.{fold-append}
 use Rattle.std.proofs.lemmas.Grind.{flat_map-append}
@@ -13,8 +12,8 @@ use Rattle.grid_model.specs.Images.{logged_effect, layout_after}
 use Rattle.grid_model.specs.Roots.{WholeRoot}
 use Rattle.file_images.specs.Kept.{GateRule, Counting, Barred, PlacedBatch, NextSlot, Shut, Flying, InDoubt, Kept, OtherHeader, on_half, used}
 use Rattle.file_images.specs.Steps.{ruled, with_placed, with_next_shut, with_flying}
-use Rattle.file_images.specs.Leads.{Standing, behind, updates_in, RootHolds, CountsOn, reach, IsKnown, MayFollow, RootLeads}
-use Rattle.file_images.proofs.Halves.{half_added, half_kept, get_added, get_left, get_last}
+use Rattle.file_images.specs.Leads.{Standing, behind, updates_in, RootHolds, CountsOn, reach, IsKnown, Lineage, and_then, MayFollow, LeadsAlong}
+use Rattle.file_images.proofs.Halves.{old_or_new, still_there, placed_there}
 use Rattle.file_images.proofs.Elements.{Among, here, there, among_left, among_right, from_append, among_these, contains_it}
 use Rattle.file_images.proofs.Chains.{chain_more}
 
@@ -33,9 +32,8 @@ holds_over k root other a b h n w L t is = record {
   pages = is.pages;
 }
 
-pub follows_over : {K : ℕ} (k : Kept K) (root : WholeRoot) (other : OtherHeader) (a b : List (PlacedBatch K)) (h : ℕ) (n : NextSlot K) (w : WholeRoot) (L : Layout K) (t : Table) (taken : List (LoggedBatch K)) (place : ℕ) (d : LoggedBatch K)
-    → MayFollow k w L t taken place d → MayFollow (kept_with k root other a b h n) w L t taken place d
-follows_over k root other a b h n w L t taken place d is = record { session = is.session; first = is.first; may = is.may }
+pub follows_over : {K : ℕ} (k : Kept K) (root : WholeRoot) (other : OtherHeader) (a b : List (PlacedBatch K)) (h : ℕ) (n : NextSlot K) (w : WholeRoot) (x : Lineage K) (place : ℕ) (d : LoggedBatch K) → MayFollow k w x place d → MayFollow (kept_with k root other a b h n) w x place d
+follows_over k root other a b h n w x place d is = record { session = is.session; first = is.first; may = is.may }
 
 pub reach_up : {K : ℕ} (n : NextSlot K) (place : ℕ) → place ≤ reach n place
 reach_up Shut place = omega arith
@@ -67,17 +65,23 @@ is_flying (InDoubt b) = false
 pub shut_not_flying : {K : ℕ} → ◌≡◌ {A = NextSlot K} Shut Flying → ⊥
 shut_not_flying e = true≢false (sym (ap is_flying e))
 
-module _ {K : ℕ} (k : Kept K) (w : WholeRoot) (m : Standing K) (c : RootLeads k w m) where
+-- the batch in doubt is none but this one
+pub one_doubt : {K : ℕ} (b d : LoggedBatch K) → ◌≡◌ {A = NextSlot K} (InDoubt b) (InDoubt d) → b ≡ d
+one_doubt {K} b d e = ap in_it e
+  where
+    in_it : NextSlot K → LoggedBatch K
+    in_it Shut = b
+    in_it Flying = b
+    in_it (InDoubt c) = c
+
+module _ {K : ℕ} (k : Kept K) (w : WholeRoot) (m : Standing K) (x : Lineage K) (c : LeadsAlong k w m x) where
   -- where no batch is in doubt on the next slot
-  leads_undoubted : (n : NextSlot K) → ((d : LoggedBatch K) → n ≡ InDoubt d → ⊥) → reach n m.place ≡ m.place → RootLeads (record k { next = n }) w m
+  leads_undoubted : (n : NextSlot K) → ((d : LoggedBatch K) → n ≡ InDoubt d → ⊥) → reach n m.place ≡ m.place → LeadsAlong (record k { next = n }) w m x
   leads_undoubted n none near = record {
-    layout = c.layout;
-    table = c.table;
-    holds = holds_over k k.root k.other k.first k.second k.half n w c.layout c.table c.holds;
-    taken = c.taken;
+    holds = holds_over k k.root k.other k.first k.second k.half n w x.layout x.table c.holds;
     chain = c.chain;
     there = λ b on. let at = c.there b on in (at.0, record { half = at.1.half; slot = at.1.slot; two = at.1.two; there = at.1.there });
-    known = λ h i p two is mine. known_nearer w.fields.front c.taken c.taken (reach k.next m.place) (reach n m.place) p (omega (arith, near, reach_up k.next m.place)) (λ b on. on) (c.known h i p two is mine);
+    known = λ h i p two is mine. known_nearer w.fields.front x.taken x.taken (reach k.next m.place) (reach n m.place) p (omega (arith, near, reach_up k.next m.place)) (λ b on. on) (c.known h i p two is mine);
     sessions = c.sessions;
     makes_table = c.makes_table;
     makes_layout = c.makes_layout;
@@ -85,19 +89,16 @@ module _ {K : ℕ} (k : Kept K) (w : WholeRoot) (m : Standing K) (c : RootLeads 
     doubt = λ d is. absurd (none d is);
   }
 
-  pub leads_shut : RootLeads (with_next_shut k) w m
+  pub leads_shut : LeadsAlong (with_next_shut k) w m x
   leads_shut = leads_undoubted Shut (λ d is. shut_no_doubt d is) refl
 
-  pub leads_flying : RootLeads (with_flying k) w m
+  pub leads_flying : LeadsAlong (with_flying k) w m x
   leads_flying = leads_undoubted Flying (λ d is. flying_no_doubt d is) refl
 
   -- where other roots are kept, as one that was tried
-  pub leads_over : (root : WholeRoot) (other : OtherHeader) (h : ℕ) → RootLeads (kept_with k root other k.first k.second h k.next) w m
+  pub leads_over : (root : WholeRoot) (other : OtherHeader) (h : ℕ) → LeadsAlong (kept_with k root other k.first k.second h k.next) w m x
   leads_over root other h = record {
-    layout = c.layout;
-    table = c.table;
-    holds = holds_over k root other k.first k.second h k.next w c.layout c.table c.holds;
-    taken = c.taken;
+    holds = holds_over k root other k.first k.second h k.next w x.layout x.table c.holds;
     chain = c.chain;
     there = λ b on. let at = c.there b on in (at.0, record { half = at.1.half; slot = at.1.slot; two = at.1.two; there = at.1.there });
     known = c.known;
@@ -105,7 +106,7 @@ module _ {K : ℕ} (k : Kept K) (w : WholeRoot) (m : Standing K) (c : RootLeads 
     makes_table = c.makes_table;
     makes_layout = c.makes_layout;
     may = c.may;
-    doubt = λ d is. follows_over k root other k.first k.second h k.next w c.layout c.table c.taken m.place d (c.doubt d is);
+    doubt = λ d is. follows_over k root other k.first k.second h k.next w x m.place d (c.doubt d is);
   }
 
   module _ (d : LoggedBatch K) (is : k.next ≡ InDoubt d) (half_two : k.half < 2) (rule : GateRule) where
@@ -115,51 +116,27 @@ module _ {K : ℕ} (k : Kept K) (w : WholeRoot) (m : Standing K) (c : RootLeads 
     abbrev k2 : Kept K
     k2 = with_placed k p
 
-    here_is : on_half k2 k.half ≡ on_half k k.half ++ p ∷ []
-    here_is = half_added p k.first k.second k.half
-
-    kept_is : (h : ℕ) → h < 2 → h ≢ k.half → on_half k2 h ≡ on_half k h
-    kept_is h two apart = half_kept p k.first k.second h k.half two half_two apart
-
-    same_half : (h : ℕ) → h ≡ k.half → on_half k2 h ≡ on_half k h ++ p ∷ []
-    same_half h same = subst (λ (j : ℕ). on_half k2 j ≡ on_half k j ++ p ∷ []) (sym same) here_is
-
-    old_or_new : (h i : ℕ) (q : PlacedBatch K) → h < 2 → slice_get (on_half k2 h) i ≡ Some q → (slice_get (on_half k h) i ≡ Some q) ⊎ (q ≡ p)
-    old_or_new h i q two at = elim (cases_eq h k.half) [
-      | inl same ↦ elim (get_added (on_half k h) p q i (subst (λ (xs : List (PlacedBatch K)). slice_get xs i ≡ Some q) (same_half h same) at)) [ inl old ↦ inl old | inr new ↦ inr new.1 ]
-      | inr other ↦ inl (subst (λ (xs : List (PlacedBatch K)). slice_get xs i ≡ Some q) (kept_is h two other) at)
-    ]
-
-    still_there : (h i : ℕ) (q : PlacedBatch K) → h < 2 → slice_get (on_half k h) i ≡ Some q → slice_get (on_half k2 h) i ≡ Some q
-    still_there h i q two at = elim (cases_eq h k.half) [
-      | inl same ↦ subst (λ (xs : List (PlacedBatch K)). slice_get xs i ≡ Some q) (sym (same_half h same)) (get_left (on_half k h) p q i at)
-      | inr other ↦ subst (λ (xs : List (PlacedBatch K)). slice_get xs i ≡ Some q) (sym (kept_is h two other)) at
-    ]
-
     counts_still : (b : LoggedBatch K) → CountsOn k b → CountsOn k2 b
-    counts_still b on = record { half = on.half; slot = on.slot; two = on.two; there = still_there on.half on.slot (ruled b Counting) on.two on.there }
+    counts_still b on = record { half = on.half; slot = on.slot; two = on.two; there = still_there k p half_two on.half on.slot (ruled b Counting) on.two on.there }
 
     far_is : reach k.next m.place ≡ m.place + length d.updates
     far_is = ap (λ (n : NextSlot K). reach n m.place) is
 
     sessions_still : (h i : ℕ) (q : PlacedBatch K) → h < 2 → slice_get (on_half k2 h) i ≡ Some q → q.batch.session ≤ w.fields.session
-    sessions_still h i q two at = elim (old_or_new h i q two at) [
+    sessions_still h i q two at = elim (old_or_new k p half_two h i q two at) [
       | inl old ↦ c.sessions h i q two old
-      | inr new ↦ omega (arith, ap (λ (x : PlacedBatch K). x.batch.session) new, (c.doubt d is).session)
+      | inr new ↦ omega (arith, ap (λ (y : PlacedBatch K). y.batch.session) new, (c.doubt d is).session)
     ]
 
     -- a batch that was in doubt and is barred changes nothing
-    pub leads_barred : rule ≡ Barred → RootLeads k2 w m
+    pub leads_barred : rule ≡ Barred → LeadsAlong k2 w m x
     leads_barred barred = record {
-      layout = c.layout;
-      table = c.table;
-      holds = holds_over k k.root k.other k2.first k2.second k.half Shut w c.layout c.table c.holds;
-      taken = c.taken;
+      holds = holds_over k k.root k.other k2.first k2.second k.half Shut w x.layout x.table c.holds;
       chain = c.chain;
       there = λ b on. let at = c.there b on in (at.0, counts_still b at.1);
-      known = λ h i q two at mine. elim (old_or_new h i q two at) [
-        | inl old ↦ known_nearer w.fields.front c.taken c.taken (reach k.next m.place) m.place q (reach_up k.next m.place) (λ b on. on) (c.known h i q two old mine)
-        | inr new ↦ inl (ap (λ (x : PlacedBatch K). x.gate) new ∙ barred)
+      known = λ h i q two at mine. elim (old_or_new k p half_two h i q two at) [
+        | inl old ↦ known_nearer w.fields.front x.taken x.taken (reach k.next m.place) m.place q (reach_up k.next m.place) (λ b on. on) (c.known h i q two old mine)
+        | inr new ↦ inl (ap (λ (y : PlacedBatch K). y.gate) new ∙ barred)
       ];
       sessions = sessions_still;
       makes_table = c.makes_table;
@@ -169,38 +146,35 @@ module _ {K : ℕ} (k : Kept K) (w : WholeRoot) (m : Standing K) (c : RootLeads 
     }
 
     abbrev more : List (LoggedBatch K)
-    more = c.taken ++ d ∷ []
+    more = (and_then x d).taken
 
-    updates_more : updates_in more ≡ updates_in c.taken ++ d.updates
-    updates_more = flat_map-append (λ (b : LoggedBatch K). b.updates) c.taken (d ∷ []) ∙ ap (λ (us : List (LoggedUpdate K)). updates_in c.taken ++ us) (append-nil d.updates)
+    updates_more : updates_in more ≡ updates_in x.taken ++ d.updates
+    updates_more = flat_map-append (λ (b : LoggedBatch K). b.updates) x.taken (d ∷ []) ∙ ap (λ (us : List (LoggedUpdate K)). updates_in x.taken ++ us) (append-nil d.updates)
 
     -- a batch that was in doubt and counts takes the place behind it
-    pub leads_placed : 0 < length d.updates → rule ≡ Counting → RootLeads k2 w (behind m d)
+    pub leads_placed : 0 < length d.updates → rule ≡ Counting → LeadsAlong k2 w (behind m d) (and_then x d)
     unfolding layout_after
     leads_placed some counting_is =
         let follows = c.doubt d is in
         record {
-          layout = c.layout;
-          table = c.table;
-          holds = holds_over k k.root k.other k2.first k2.second k.half Shut w c.layout c.table c.holds;
-          taken = more;
-          chain = chain_more w.fields.front m.place c.taken d c.chain follows.first some;
-          there = λ b on. elim (from_append b c.taken (d ∷ []) (among_these b more on)) [
-            | inl old ↦ let at = c.there b (contains_it b c.taken old) in (at.0, counts_still b at.1)
+          holds = holds_over k k.root k.other k2.first k2.second k.half Shut w x.layout x.table c.holds;
+          chain = chain_more w.fields.front m.place x.taken d c.chain follows.first some;
+          there = λ b on. elim (from_append b x.taken (d ∷ []) (among_these b more on)) [
+            | inl old ↦ let at = c.there b (contains_it b x.taken old) in (at.0, counts_still b at.1)
             | inr new ↦ last_there b new follows.session counting_is
           ];
-          known = λ h i q two at mine. elim (old_or_new h i q two at) [
-            | inl old ↦ known_nearer w.fields.front c.taken more (reach k.next m.place) (m.place + length d.updates) q (omega (arith, far_is)) (λ b on. contains_it b more (among_left b c.taken (d ∷ []) (among_these b c.taken on))) (c.known h i q two old mine)
-            | inr new ↦ inr (inr (inl (subst (λ (x : PlacedBatch K). Contains more x.batch) (sym new) (contains_it d more (among_right d c.taken (d ∷ []) here)))))
+          known = λ h i q two at mine. elim (old_or_new k p half_two h i q two at) [
+            | inl old ↦ known_nearer w.fields.front x.taken more (reach k.next m.place) (m.place + length d.updates) q (omega (arith, far_is)) (λ b on. contains_it b more (among_left b x.taken (d ∷ []) (among_these b x.taken on))) (c.known h i q two old mine)
+            | inr new ↦ inr (inr (inl (subst (λ (y : PlacedBatch K). Contains more y.batch) (sym new) (contains_it d more (among_right d x.taken (d ∷ []) here)))))
           ];
           sessions = sessions_still;
-          makes_table = ap (λ (u : Table). fold logged_effect u d.updates) c.makes_table ∙ sym (fold-append logged_effect c.table (updates_in c.taken) d.updates) ∙ ap (fold logged_effect c.table) (sym updates_more);
-          makes_layout = ap (λ (u : Layout K). layout_after u d.updates) c.makes_layout ∙ sym (fold-append _ c.layout (updates_in c.taken) d.updates) ∙ ap (layout_after c.layout) (sym updates_more);
+          makes_table = ap (λ (u : Table). fold logged_effect u d.updates) c.makes_table ∙ sym (fold-append logged_effect x.table (updates_in x.taken) d.updates) ∙ ap (fold logged_effect x.table) (sym updates_more);
+          makes_layout = ap (λ (u : Layout K). layout_after u d.updates) c.makes_layout ∙ sym (fold-append _ x.layout (updates_in x.taken) d.updates) ∙ ap (layout_after x.layout) (sym updates_more);
           may = follows.may;
           doubt = λ e eq. shut_no_doubt e eq;
         }
       where
         last_there : (b : LoggedBatch K) → Among b (d ∷ []) → d.session ≡ w.fields.session → rule ≡ Counting → (b.session ≡ w.fields.session) × CountsOn k2 b
         last_there _ here session gate =
-            (session, record { half = k.half; slot = used k k.half; two = half_two; there = subst (λ (xs : List (PlacedBatch K)). slice_get xs (used k k.half) ≡ Some (ruled d Counting)) (sym here_is) (subst (λ (r : GateRule). slice_get (on_half k k.half ++ p ∷ []) (used k k.half) ≡ Some (ruled d r)) gate (get_last (on_half k k.half) p)) })
+            (session, record { half = k.half; slot = used k k.half; two = half_two; there = subst (λ (r : GateRule). slice_get (on_half k2 k.half) (used k k.half) ≡ Some (ruled d r)) gate (placed_there k p half_two) })
         last_there b (there on) session gate = elim on [ ]

@@ -21,21 +21,21 @@ use Rattle.grid_model.specs.Scales.{is_scale}
 use Rattle.grid_model.specs.Layouts.{BucketBox, whole, holder, number_at, new_layout, directory, directory_part}
 use Rattle.grid_model.specs.Lawful.{IsRootOn, IsAreaOf, pages_named, nowhere, cells_of_counts}
 use Rattle.grid_model.specs.Spellings.{directory_spelling, bucket_spelling}
-use Rattle.grid_model.specs.Images.{HasGatesOf, layout_after, numbers_of}
+use Rattle.grid_model.specs.Images.{HasGatesOf, numbers_of}
 use Rattle.grid_model.specs.Roots.{WholeRoot}
 use Rattle.grid_model.proofs.Boxes.{some-not-none, one-value}
-use Rattle.grid_model.proofs.Members.{contains-none}
 use Rattle.grid_model.proofs.NewLayout.{new-stands, one_cell}
 use Rattle.grid_model.proofs.Found.{one-number}
 use Rattle.history_pages.specs.OwnerPages.{as_bucket, owner_page, numbered_bucket}
 use Rattle.journal_slots.proofs.Frames.{gate_is_byte}
 use Rattle.file_images.specs.Kept.{PlacedBatch, on_half}
 use Rattle.file_images.specs.Shows.{gate_in, Shows}
-use Rattle.file_images.specs.Leads.{HasStanding, Leads, RootHolds, RootLeads, page_named}
+use Rattle.file_images.specs.Leads.{HasStanding, Leads, RootHolds, rooted_at, LeadsAlong, page_named}
 use Rattle.file_images.specs.NewFiles.{new_fields, new_area, new_root, new_directory, new_bucket, IsNewFile, new_kept, new_standing}
 use Rattle.file_images.proofs.PagesApart.{few}
 use Rattle.file_images.proofs.Elements.{Among, here, there, from_range}
 use Rattle.file_images.proofs.Histories.{shut_no_doubt, shut_not_flying}
+use Rattle.file_images.proofs.Leading.{leads_begun}
 use Rattle.file_images.proofs.Standings.{shows_stands}
 
 -- a list of which no element passes
@@ -175,26 +175,13 @@ module _ (K : ℕ) (s : Shape) (lawful : IsTrue (is_shape s)) (attributes : s.k 
   none_placed zero i p is = absurd (some-not-none p (sym is))
   none_placed (suc h) i p is = absurd (some-not-none p (sym is))
 
-  new_root_leads : RootLeads (new_kept K s) (new_root K s) (new_standing K)
-  unfolding layout_after
-  new_root_leads = record {
-    layout = new_layout K;
-    table = [];
-    holds = new_holds;
-    taken = [];
-    chain = refl;
-    there = λ b m. contains-none b m;
-    known = λ h i p two is mine. none_placed h i p is;
-    sessions = λ h i p two is. none_placed h i p is;
-    makes_table = refl;
-    makes_layout = refl;
-    may = tt;
-    doubt = λ d is. shut_no_doubt d is;
-  }
+  -- the root of a new file leads to its standing, along its layout and the empty table
+  pub new_root_leads : LeadsAlong (new_kept K s) (new_root K s) (new_standing K) (rooted_at (new_standing K))
+  new_root_leads = leads_begun (new_kept K s) (new_standing K) (new_root K s) (record { front = refl; holds = new_holds; earlier = λ h i p two is. none_placed h i p is; shut = refl })
 
   -- what a new file keeps leads to its standing
   pub new_leads : Leads (new_kept K s) (new_standing K)
-  new_leads w (inl e) = subst (λ (v : WholeRoot). RootLeads (new_kept K s) v (new_standing K)) (sym e) new_root_leads
+  new_leads w (inl e) = record { lineage = rooted_at (new_standing K); along = subst (λ (v : WholeRoot). LeadsAlong (new_kept K s) v (new_standing K) (rooted_at (new_standing K))) (sym e) new_root_leads }
   new_leads w (inr m) = absurd m
 
 module _ (K : ℕ) (s : Shape) (image : List ℕ) (is : IsNewFile K s image) where

@@ -18,10 +18,10 @@ use Rattle.grid_model.proofs.Members.{contains-among, contains-first, contains-l
 use Rattle.grid_model.proofs.Numbered.{found-among}
 use Rattle.history_pages.specs.OwnerPages.{owner_page}
 use Rattle.history_pages.proofs.Named.{bucket-named, part-named}
-use Rattle.file_images.specs.Kept.{MayBeNewest, Kept}
+use Rattle.file_images.specs.Kept.{Kept}
 use Rattle.file_images.specs.Meets.{AreFewer, Covers}
 use Rattle.file_images.specs.Steps.{settle_page, with_settled, ask_nothing, without_pages}
-use Rattle.file_images.specs.Leads.{Standing, page_named, RootHolds, Leads}
+use Rattle.file_images.specs.Leads.{Standing, page_named, RootHolds, Lineage, LeadsAlong}
 use Rattle.file_images.specs.LeadingLaws.{NamesNone}
 use Rattle.file_images.proofs.Named.{entry-there, named-by-number}
 use Rattle.file_images.proofs.Settling.{set_other, set_same}
@@ -37,39 +37,34 @@ module _ {K : ℕ} (k : Kept K) (w : WholeRoot) (L : Layout K) (t : Table) (hold
       let lt : p < parts L.scales = ltb-true p (parts L.scales) (sym (part-named L t p) ∙ ap is_some is) in
       Contains-append_left w.area.parts (pages_named w.area.table) (slice_index w.area.parts p) (entry-there w.area.parts p (omega (arith, lt, holds.directory)))
 
--- what a root's pages always hold stays where other pages change
-module _ {K : ℕ} (k : Kept K) (always fresh : List (Option (List ℕ))) (m : Standing K) (same : (w : WholeRoot) (p : ℕ) → MayBeNewest k w → Contains (w.area.parts ++ pages_named w.area.table) p → slice_get always p ≡ slice_get k.always p) where
-  holds_still : (w : WholeRoot) (L : Layout K) (t : Table) → MayBeNewest k w → RootHolds k w L t → RootHolds (record k { always = always; fresh = fresh }) w L t
-  holds_still w L t newest was = record {
+-- what a root's pages always hold stays where other pages change, and so it leads where it did
+module _ {K : ℕ} (k : Kept K) (always fresh : List (Option (List ℕ))) (m : Standing K) (w : WholeRoot) (x : Lineage K) (same : (p : ℕ) → Contains (w.area.parts ++ pages_named w.area.table) p → slice_get always p ≡ slice_get k.always p) where
+  holds_still : RootHolds k w x.layout x.table → RootHolds (record k { always = always; fresh = fresh }) w x.layout x.table
+  holds_still was = record {
     scales = was.scales;
     directory = was.directory;
     numbers = was.numbers;
     stands = was.stands;
     records = was.records;
-    pages = λ o bytes is. same w (page_named w.area o) newest (named_there k w L t was o bytes is) ∙ was.pages o bytes is;
+    pages = λ o bytes is. same (page_named w.area o) (named_there k w x.layout x.table was o bytes is) ∙ was.pages o bytes is;
   }
 
-  pages_lead : Leads k m → Leads (record k { always = always; fresh = fresh }) m
-  pages_lead leads w newest =
-      let c = leads w newest in
-      record {
-        layout = c.layout;
-        table = c.table;
-        holds = holds_still w c.layout c.table newest c.holds;
-        taken = c.taken;
-        chain = c.chain;
-        there = λ b on. let at = c.there b on in (at.0, record { half = at.1.half; slot = at.1.slot; two = at.1.two; there = at.1.there });
-        known = c.known;
-        sessions = c.sessions;
-        makes_table = c.makes_table;
-        makes_layout = c.makes_layout;
-        may = c.may;
-        doubt = λ d is. let f = c.doubt d is in record { session = f.session; first = f.first; may = f.may };
-      }
+  pages_lead : LeadsAlong k w m x → LeadsAlong (record k { always = always; fresh = fresh }) w m x
+  pages_lead c = record {
+    holds = holds_still c.holds;
+    chain = c.chain;
+    there = λ b on. let at = c.there b on in (at.0, record { half = at.1.half; slot = at.1.slot; two = at.1.two; there = at.1.there });
+    known = c.known;
+    sessions = c.sessions;
+    makes_table = c.makes_table;
+    makes_layout = c.makes_layout;
+    may = c.may;
+    doubt = λ d is. let f = c.doubt d is in record { session = f.session; first = f.first; may = f.may };
+  }
 
 -- what fresh pages read as leads nowhere else
-pub leads_fresh : {K : ℕ} (k : Kept K) (fresh : List (Option (List ℕ))) (m : Standing K) → Leads k m → Leads (record k { fresh = fresh }) m
-leads_fresh k fresh m leads = pages_lead k k.always fresh m (λ w p newest named. refl) leads
+pub leads_fresh : {K : ℕ} (k : Kept K) (fresh : List (Option (List ℕ))) (m : Standing K) (w : WholeRoot) (x : Lineage K) → LeadsAlong k w m x → LeadsAlong (record k { fresh = fresh }) w m x
+leads_fresh k fresh m w x c = pages_lead k k.always fresh m w x (λ p named. refl) c
 
 settled_beside : (fresh always : List (Option (List ℕ))) (pages : List ℕ) (p : ℕ) → (Contains pages p → ⊥) → slice_get (fold (settle_page fresh) always pages) p ≡ slice_get always p
 settled_beside fresh always [] p none = refl
@@ -83,12 +78,12 @@ unasked_beside always (q ∷ qs) p none =
     unasked_beside (ask_nothing always q) qs p (λ m. none (contains-later q qs p m))
     ∙ set_other always q p None (λ e. none (subst (λ (n : ℕ). Contains (q ∷ qs) n) e (contains-first q qs)))
 
--- pages that are settled or let go, where no newest root names them
-pub leads_settled : {K : ℕ} (k : Kept K) (m : Standing K) (pages : List ℕ) → NamesNone k pages → Leads k m → Leads (with_settled k pages) m
-leads_settled k m pages none leads = pages_lead k (fold (settle_page k.fresh) k.always pages) k.fresh m (λ w p newest named. settled_beside k.fresh k.always pages p (λ on. none w p newest on named)) leads
+-- pages that are settled or let go, where the root does not name them
+pub leads_settled : {K : ℕ} (k : Kept K) (m : Standing K) (pages : List ℕ) (w : WholeRoot) (x : Lineage K) → NamesNone w pages → LeadsAlong k w m x → LeadsAlong (with_settled k pages) w m x
+leads_settled k m pages w x none c = pages_lead k (fold (settle_page k.fresh) k.always pages) k.fresh m w x (λ p named. settled_beside k.fresh k.always pages p (λ on. none p on named)) c
 
-pub leads_let_go : {K : ℕ} (k : Kept K) (m : Standing K) (pages : List ℕ) → NamesNone k pages → Leads k m → Leads (without_pages k pages) m
-leads_let_go k m pages none leads = pages_lead k (fold ask_nothing k.always pages) (fold ask_nothing k.fresh pages) m (λ w p newest named. unasked_beside k.always pages p (λ on. none w p newest on named)) leads
+pub leads_let_go : {K : ℕ} (k : Kept K) (m : Standing K) (pages : List ℕ) (w : WholeRoot) (x : Lineage K) → NamesNone w pages → LeadsAlong k w m x → LeadsAlong (without_pages k pages) w m x
+leads_let_go k m pages w x none c = pages_lead k (fold ask_nothing k.always pages) (fold ask_nothing k.fresh pages) m w x (λ p named. unasked_beside k.always pages p (λ on. none p on named)) c
 
 fewer_unasked : (pages : List ℕ) (all : List (Option (List ℕ))) → AreFewer all (fold ask_nothing all pages)
 fewer_unasked [] all p bytes is = is

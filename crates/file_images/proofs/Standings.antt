@@ -20,7 +20,7 @@ use Rattle.history_pages.specs.OwnerPages.{as_bucket, numbered_bucket, owner_pag
 use Rattle.file_images.specs.Kept.{Counting, Barred, NextSlot, Shut, Flying, Kept}
 use Rattle.file_images.specs.Shows.{Shows}
 use Rattle.file_images.specs.Steps.{with_slot, with_barred, with_next_shut}
-use Rattle.file_images.specs.Leads.{Standing, HasStanding, behind, RootHolds, reach, IsKnown, RootLeads, Leads, HasStandingOrBehind}
+use Rattle.file_images.specs.Leads.{Standing, HasStanding, behind, RootHolds, reach, IsKnown, Lineage, and_then, LeadsAlong, Leads, HasStandingOrBehind}
 use Rattle.file_images.proofs.Found.{gates, batch_at, has_gates, opened_there, written_there, written_all, joins}
 use Rattle.file_images.proofs.Newest.{newest_of}
 use Rattle.file_images.proofs.Resolving.{resolved_by}
@@ -60,7 +60,7 @@ module _ {K : ℕ} (k : Kept K) (image : List ℕ) (was : Shows k image) (w : Wh
   pages_spell = record { count = holds.directory; directory = part_there; numbers = holds.numbers; buckets = bucket_there }
 
 -- where nothing is on the next slot, it has the standing to which its newest root leads
-module _ {K : ℕ} (k : Kept K) (image : List ℕ) (was : Shows k image) (shut : k.next ≡ Shut) (w : WholeRoot) (whole : IsNewestWhole k.shape w image) (m : Standing K) (c : RootLeads k w m) where
+module _ {K : ℕ} (k : Kept K) (image : List ℕ) (was : Shows k image) (shut : k.next ≡ Shut) (w : WholeRoot) (whole : IsNewestWhole k.shape w image) (m : Standing K) (x : Lineage K) (c : LeadsAlong k w m x) where
   abbrev found : Found K
   found = record {
     shape = k.shape;
@@ -68,9 +68,9 @@ module _ {K : ℕ} (k : Kept K) (image : List ℕ) (was : Shows k image) (shut :
     area = w.area;
     gates = gates k image was shut;
     batches = map (batch_at k) (open_slots (gates k image was shut));
-    taken = c.taken;
-    buckets = map (bucket_on c.table) c.layout.boxes;
-    table = c.table;
+    taken = x.taken;
+    buckets = map (bucket_on x.table) x.layout.boxes;
+    table = x.table;
   }
 
   is_found : IsFound image found m.place
@@ -82,17 +82,17 @@ module _ {K : ℕ} (k : Kept K) (image : List ℕ) (was : Shows k image) (shut :
         area = whole.area;
         gates = has_gates k image was shut;
         batches = opened_there k image was shut;
-        taken = joins k image was shut w.fields.session w.fields.front m.place c.taken c.chain c.there (λ h i p two is mine. subst (λ (n : ℕ). IsKnown w.fields.front c.taken n p) far (c.known h i p two is mine));
+        taken = joins k image was shut w.fields.session w.fields.front m.place x.taken c.chain c.there (λ h i p two is mine. subst (λ (n : ℕ). IsKnown w.fields.front x.taken n p) far (c.known h i p two is mine));
       }
 
   abbrev reads : Reads K image m.place m.table
   reads = record {
     found = found;
-    makes = record { is_found = is_found; buckets = has_buckets k image was w c.layout c.table c.holds; records = records-together k.shape c.layout c.table c.holds.stands; table = c.makes_table };
+    makes = record { is_found = is_found; buckets = has_buckets k image was w x.layout x.table c.holds; records = records-together k.shape x.layout x.table c.holds.stands; table = c.makes_table };
   }
 
-  root_spells : RootSpells image found c.layout
-  root_spells = record { scales = c.holds.scales; pages = pages_spell k image was w c.layout c.table c.holds; sound = c.holds.stands.sound; records = c.holds.records }
+  root_spells : RootSpells image found x.layout
+  root_spells = record { scales = c.holds.scales; pages = pages_spell k image was w x.layout x.table c.holds; sound = c.holds.stands.sound; records = c.holds.records }
 
   are_written : AreWritten image found
   are_written = record {
@@ -103,8 +103,8 @@ module _ {K : ℕ} (k : Kept K) (image : List ℕ) (was : Shows k image) (shut :
 
   pub stands_shut : HasStanding image m
   stands_shut = record {
-    stands = record { reads = reads; written = are_written; layout = c.layout; root = root_spells; updates = c.may };
-    shaped = record { place = m.place; table = m.table; reads = reads; layout = c.layout; root = root_spells; after = c.makes_layout };
+    stands = record { reads = reads; written = are_written; layout = x.layout; root = root_spells; updates = c.may };
+    shaped = record { place = m.place; table = m.table; reads = reads; layout = x.layout; root = root_spells; after = c.makes_layout };
   }
 
 -- an image has the standing, or that behind the batch in doubt, be the newest root the kept one or the one that was tried
@@ -112,14 +112,16 @@ pub shows_stands : {K : ℕ} (k : Kept K) (image : List ℕ) (m : Standing K) �
 shows_stands {K = K} k image m was still leads =
     let newest = newest_of k.shape k.root k.other image was.roots in
     let w = newest.newest in
-    let c = leads w newest.is in
+    let r = leads w newest.is in
+    let x = r.lineage in
+    let c = r.along in
     elim (resolved_by k image was k.next refl still) [
-      | inl plain ↦ inl (stands_shut (with_next_shut k) image plain refl w newest.whole m (leads_shut k w m c))
+      | inl plain ↦ inl (stands_shut (with_next_shut k) image plain refl w newest.whole m x (leads_shut k w m x c))
       | inr more ↦
           let d = more.0 in
           let some : 0 < length d.updates = omega (arith, more.1.spelled.lawful.some) in
           elim more.1.how [
-            | inl barred ↦ inl (stands_shut (with_barred k d) image barred refl w newest.whole m (leads_barred k w m c d more.1.is was.sizes.two Barred refl))
-            | inr counts ↦ inr (d, more.1.is, stands_shut (with_slot k d) image counts refl w newest.whole (behind m d) (leads_placed k w m c d more.1.is was.sizes.two Counting some refl))
+            | inl barred ↦ inl (stands_shut (with_barred k d) image barred refl w newest.whole m x (leads_barred k w m x c d more.1.is was.sizes.two Barred refl))
+            | inr counts ↦ inr (d, more.1.is, stands_shut (with_slot k d) image counts refl w newest.whole (behind m d) (and_then x d) (leads_placed k w m x c d more.1.is was.sizes.two Counting some refl))
           ]
     ]

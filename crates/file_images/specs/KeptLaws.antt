@@ -17,7 +17,7 @@ use Rattle.file_images.specs.Shows.{ShowsRoots, gate_in, Shows}
 use Rattle.file_images.specs.Apart.{IsFreePage}
 use Rattle.file_images.specs.Steps.{with_doubt, with_slot, with_barred, with_next_shut, with_loose, with_shut, with_closed, with_tried, with_root, with_turned}
 use Rattle.file_images.specs.Meets.{IsLooseUnder}
-use Rattle.file_images.specs.Leads.{Standing, behind, Leads, HasStandingOrBehind}
+use Rattle.file_images.specs.Leads.{Standing, behind, Lineage, and_then, LeadsAlong, Leads, HasStandingOrBehind}
 
 -- a write on a page of which nothing is kept leaves what an image shows
 abbrev pub WritesApartLeave : ℕ → Type 0
@@ -27,11 +27,11 @@ WritesApartLeave K = (k : Kept K) (q at n : ℕ) (c d : List ℕ) → IsFreePage
 abbrev pub ShownStands : ℕ → Type 0
 ShownStands K = (k : Kept K) (image : List ℕ) (m : Standing K) → Shows k image → k.next ≢ Flying → Leads k m → HasStandingOrBehind k image m
 
--- the batch in doubt, where it counts, leads on to the standing behind it; where it is barred, or gone, all leads to the standing to which it led
+-- the batch in doubt, where it counts, leads a root on to the standing behind it, along its lineage and then the batch; where it is barred, or gone, a root leads to the standing to which it led, along the same lineage
 pub record DoubtLeadsOn (K : ℕ) : Type 0 where
-  pub counts : (k : Kept K) (d : LoggedBatch K) (m : Standing K) → k.half < 2 → k.next ≡ InDoubt d → 0 < length d.updates → Leads k m → Leads (with_slot k d) (behind m d)
-  pub barred : (k : Kept K) (d : LoggedBatch K) (m : Standing K) → k.half < 2 → k.next ≡ InDoubt d → Leads k m → Leads (with_barred k d) m
-  pub gone : (k : Kept K) (m : Standing K) → Leads k m → Leads (with_next_shut k) m
+  pub counts : (k : Kept K) (d : LoggedBatch K) (m : Standing K) (w : WholeRoot) (x : Lineage K) → k.half < 2 → k.next ≡ InDoubt d → 0 < length d.updates → LeadsAlong k w m x → LeadsAlong (with_slot k d) w (behind m d) (and_then x d)
+  pub barred : (k : Kept K) (d : LoggedBatch K) (m : Standing K) (w : WholeRoot) (x : Lineage K) → k.half < 2 → k.next ≡ InDoubt d → LeadsAlong k w m x → LeadsAlong (with_barred k d) w m x
+  pub gone : (k : Kept K) (m : Standing K) (w : WholeRoot) (x : Lineage K) → LeadsAlong k w m x → LeadsAlong (with_next_shut k) w m x
 
 -- at each moment of a commit on the next slot, on which nothing is, its batch is in doubt there, and when it is committed it counts there
 pub record CommittingShows (K : ℕ) : Type 0 where

@@ -70,26 +70,46 @@ reach (InDoubt b) n = n + length b.updates
 abbrev pub IsKnown : {K : ℕ} → ℕ → List (LoggedBatch K) → ℕ → PlacedBatch K → Type 0
 IsKnown from taken far p = (p.gate ≡ Barred) ⊎ ((p.batch.first ≤ from) ⊎ (Contains taken p.batch ⊎ (far + 1 < p.batch.first)))
 
--- the batch in doubt may be taken behind these ones: it is of the root's session, begins at the next place, and each of its updates may be made
-pub record MayFollow {K : ℕ} (k : Kept K) (w : WholeRoot) (L : Layout K) (t : Table) (taken : List (LoggedBatch K)) (place : ℕ) (d : LoggedBatch K) : Type 0 where
-  pub session : d.session ≡ w.fields.session
-  pub first : d.first ≡ place + 1
-  pub may : MayRedoAll k.shape (opened t L w.fields.front) (updates_in (taken ++ d ∷ []))
-
--- a root leads to a standing: its pages hold a layout and a table, and from its front the batches of its session that count go up to the place without a gap, and make of both the layout and the table there; no other batch joins them; each may be taken, and so may the one in doubt behind them
-pub record RootLeads {K : ℕ} (k : Kept K) (w : WholeRoot) (m : Standing K) : Type 0 where
+-- where a root leads from: the layout and the table that its pages hold, and the batches behind it that are taken
+pub record Lineage (K : ℕ) : Type 0 where
   pub layout : Layout K
   pub table : Table
-  pub holds : RootHolds k w layout table
   pub taken : List (LoggedBatch K)
-  pub chain : Chain w.fields.front taken m.place
-  pub there : (b : LoggedBatch K) → Contains taken b → (b.session ≡ w.fields.session) × CountsOn k b
-  pub known : (h i : ℕ) (p : PlacedBatch K) → h < 2 → slice_get (on_half k h) i ≡ Some p → p.batch.session ≡ w.fields.session → IsKnown w.fields.front taken (reach k.next m.place) p
+
+-- a lineage, with one more batch that is taken behind the others
+abbrev pub and_then : {K : ℕ} → Lineage K → LoggedBatch K → Lineage K
+and_then x d = record { layout = x.layout; table = x.table; taken = x.taken ++ d ∷ [] }
+
+-- the lineage of a root that has the first of the batches: the layout and the table behind these, and the batches after them
+abbrev pub past : {K : ℕ} → Lineage K → (before after : List (LoggedBatch K)) → Lineage K
+past x before after = record { layout = layout_after x.layout (updates_in before); table = fold logged_effect x.table (updates_in before); taken = after }
+
+-- the lineage of a root that stands at a standing itself: no batch is taken
+abbrev pub rooted_at : {K : ℕ} → Standing K → Lineage K
+rooted_at m = record { layout = m.layout; table = m.table; taken = [] }
+
+-- the batch in doubt may be taken behind a lineage: it is of the root's session, begins at the next place, and each update of the lineage and of the batch may be made
+pub record MayFollow {K : ℕ} (k : Kept K) (w : WholeRoot) (x : Lineage K) (place : ℕ) (d : LoggedBatch K) : Type 0 where
+  pub session : d.session ≡ w.fields.session
+  pub first : d.first ≡ place + 1
+  pub may : MayRedoAll k.shape (opened x.table x.layout w.fields.front) (updates_in (x.taken ++ d ∷ []))
+
+-- a root leads to a standing along a lineage: its pages hold the lineage's layout and table, and from its front the batches of its session that count go up to the place without a gap, and make of both the layout and the table there; no other batch joins them; each may be taken, and so may the one in doubt behind them
+pub record LeadsAlong {K : ℕ} (k : Kept K) (w : WholeRoot) (m : Standing K) (x : Lineage K) : Type 0 where
+  pub holds : RootHolds k w x.layout x.table
+  pub chain : Chain w.fields.front x.taken m.place
+  pub there : (b : LoggedBatch K) → Contains x.taken b → (b.session ≡ w.fields.session) × CountsOn k b
+  pub known : (h i : ℕ) (p : PlacedBatch K) → h < 2 → slice_get (on_half k h) i ≡ Some p → p.batch.session ≡ w.fields.session → IsKnown w.fields.front x.taken (reach k.next m.place) p
   pub sessions : (h i : ℕ) (p : PlacedBatch K) → h < 2 → slice_get (on_half k h) i ≡ Some p → p.batch.session ≤ w.fields.session
-  pub makes_table : m.table ≡ fold logged_effect table (updates_in taken)
-  pub makes_layout : m.layout ≡ layout_after layout (updates_in taken)
-  pub may : MayRedoAll k.shape (opened table layout w.fields.front) (updates_in taken)
-  pub doubt : (d : LoggedBatch K) → k.next ≡ InDoubt d → MayFollow k w layout table taken m.place d
+  pub makes_table : m.table ≡ fold logged_effect x.table (updates_in x.taken)
+  pub makes_layout : m.layout ≡ layout_after x.layout (updates_in x.taken)
+  pub may : MayRedoAll k.shape (opened x.table x.layout w.fields.front) (updates_in x.taken)
+  pub doubt : (d : LoggedBatch K) → k.next ≡ InDoubt d → MayFollow k w x m.place d
+
+-- a root leads to a standing, along some lineage
+pub record RootLeads {K : ℕ} (k : Kept K) (w : WholeRoot) (m : Standing K) : Type 0 where
+  pub lineage : Lineage K
+  pub along : LeadsAlong k w m lineage
 
 -- what is kept leads to a standing: each root that may be the newest leads to it
 abbrev pub Leads : {K : ℕ} → Kept K → Standing K → Type 0

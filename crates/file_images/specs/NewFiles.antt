@@ -15,7 +15,7 @@ use Rattle.grid_model.specs.Images.{HasShape, header_gate, root_fields, area_spe
 use Rattle.grid_model.specs.Roots.{WholeRoot}
 use Rattle.file_images.specs.Kept.{ShutHeader, Shut, Kept}
 use Rattle.file_images.specs.Shows.{Shows}
-use Rattle.file_images.specs.Leads.{Standing, HasStanding, Leads}
+use Rattle.file_images.specs.Leads.{Standing, HasStanding, LeadsAlong, Leads}
 
 -- the fields of a new file's root: number, session, front and records 0, no boundaries, one directory part, one bucket
 abbrev pub new_fields : ℕ → RootFields
@@ -96,9 +96,10 @@ new_kept K s = record {
 abbrev pub new_standing : (K : ℕ) → Standing K
 new_standing K = record { place = 0; table = []; layout = new_layout K }
 
--- the image of a new file is one; each such image shows what a new file keeps; that leads to the standing of a new file; and so each such image has that standing
+-- the image of a new file is one; each such image shows what a new file keeps; its root leads to the standing of a new file, along the layout of a new file and the empty table, and so all that it keeps leads there; and so each such image has that standing
 pub record NewFilesStand (K : ℕ) : Type 0 where
   pub there_is : (s : Shape) → IsTrue (is_shape s) → s.k ≡ K → IsNewFile K s (new_image K s)
   pub shows : (s : Shape) (image : List ℕ) → IsNewFile K s image → Shows (new_kept K s) image
+  pub along : (s : Shape) → IsTrue (is_shape s) → s.k ≡ K → LeadsAlong (new_kept K s) (new_root K s) (new_standing K) (record { layout = new_layout K; table = []; taken = [] })
   pub leads : (s : Shape) → IsTrue (is_shape s) → s.k ≡ K → Leads (new_kept K s) (new_standing K)
   pub stands : (s : Shape) (image : List ℕ) → IsNewFile K s image → HasStanding image (new_standing K)

@@ -13,7 +13,7 @@ pub fn standing_law<const K: usize>()
     ensures { ShownStands K }
 {}
 
-/// The law of doubt: what becomes of a batch in doubt decides where all that is kept leads.
+/// The law of doubt: what becomes of a batch in doubt decides where a root leads, and along what.
 pub fn doubt_law<const K: usize>()
     ensures { DoubtLeadsOn K }
 {}

@@ -5,7 +5,7 @@ use Rattle.file_images.proofs.kept_laws.doubt_law.Goals as goal
 
 pub returns : goal.returns
 returns g c = record {
-  counts = λ k d m two is some leads w newest. leads_placed k w m (leads w newest) d is two Counting some refl;
-  barred = λ k d m two is leads w newest. leads_barred k w m (leads w newest) d is two Barred refl;
-  gone = λ k m leads w newest. leads_shut k w m (leads w newest);
+  counts = λ k d m w x two is some along. leads_placed k w m x along d is two Counting some refl;
+  barred = λ k d m w x two is along. leads_barred k w m x along d is two Barred refl;
+  gone = λ k m w x along. leads_shut k w m x along;
 }

@@ -1,12 +1,13 @@
-use Rattle.file_images.proofs.Histories.{leads_flying}
-use Rattle.file_images.proofs.Leading.{leads_doubted, leads_turned, leads_loosened, leads_cleared}
+use Rattle.file_images.specs.Steps.{other_half}
+use Rattle.file_images.proofs.Histories.{leads_flying, leads_over}
+use Rattle.file_images.proofs.Leading.{leads_doubted, leads_loosened, leads_cleared}
 use Rattle.file_images.proofs.leading_laws.leading_journal_law.Goals as goal
 
 pub returns : goal.returns
 returns g c = record {
-  flying = λ k m leads w newest. leads_flying k w m (leads w newest);
-  doubted = λ k m d leads shut none follows. leads_doubted k m d leads shut none follows;
-  turned = λ k m leads. leads_turned k m leads;
-  loosened = λ k h m two behind leads. leads_loosened k h m two behind leads;
-  shut = λ k h m two behind leads. leads_cleared k h m two behind leads;
+  flying = λ k m w x along. leads_flying k w m x along;
+  doubted = λ k m d w x shut none follows along. leads_doubted k m d w x none follows along;
+  turned = λ k m w x along. leads_over k w m x along k.root k.other (other_half k.half);
+  loosened = λ k h m w x two behind along. leads_loosened k h m w x two behind along;
+  shut = λ k h m w x two behind along. leads_cleared k h m w x two behind along;
 }
