@@ -1,4 +1,4 @@
--- What the publication of a batch, and the clearing of a half, leave of what a file keeps.
+-- What the commit of a batch, and the clearing of a half, leave of what a file keeps.
 use Rattle.std.proofs.Common.{◌≡◌, ◌<◌, ◌≤◌, ◌⊎◌, inl, inr, ◌+◌, ℕ, List, length, take, drop, get_or, slice_index, replicate, IsTrue, sym, ap, subst, ◌∙◌, arith}
 use Rattle.std.specs.Prelude.{Result, Ok, Err, OnOk}
 use Rattle.std.proofs.lemmas.List.{length-replicate, get_or-replicate, get_or-take, get_or-drop}

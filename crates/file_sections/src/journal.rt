@@ -1,4 +1,4 @@
-//! A batch that is published, and a half of the journal that is cleared.
+//! A batch that is committed, and a half of the journal that is cleared.
 ghost use Rattle.std.specs.Prelude.{◌≡◌, ◌<◌, ◌≤◌, ◌*◌, ℕ, IsTrue, OnOk, OnErr};
 ghost use Rattle.grid_types.specs.declared.sizes.TheConstants.{PAGE_BYTES};
 ghost use Rattle.grid_types.specs.Halves.{half_number};
@@ -18,9 +18,9 @@ use disk_trait::{Disk, DiskFailed};
 use grid_types::{Geometry, Half};
 use journal_slots::{Batch, commit_batch};
 
-/// Publishes a batch on the next slot of the current half, on which nothing is: at each moment it is in doubt there; then it
+/// Commits a batch on the next slot of the current half, on which nothing is: at each moment it is in doubt there; then it
 /// counts there, or after a failure it stays in doubt.
-pub fn publish<const K: usize, D: Disk>(
+pub fn commit<const K: usize, D: Disk>(
     disk: &mut D,
     geometry: &Geometry,
     half: Half,

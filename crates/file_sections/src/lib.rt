@@ -6,5 +6,5 @@ mod journal;
 mod roots;
 
 pub use data_pages::{read_page, sync, write_data_page};
-pub use journal::{clear_half, publish};
+pub use journal::{clear_half, commit};
 pub use roots::{close_root, finish_root, write_part};

@@ -2,7 +2,7 @@ use Rattle.grid_types.specs.Halves.{half_number}
 use Rattle.journal_slots.specs.Batches.{batch_of}
 use Rattle.file_sections.proofs.Meeting.{on_ok_synced, on_any_err}
 use Rattle.file_sections.proofs.Committing.{doubt_shown, doubt_meets, placed_meets}
-use Rattle.file_sections.proofs.journal.publish.Goals as goal
+use Rattle.file_sections.proofs.journal.commit.Goals as goal
 
 pub returns-clause-moments : goal.returns-clause-moments
 returns-clause-moments g c = λ k at was.
