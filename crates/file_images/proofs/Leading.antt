@@ -12,7 +12,7 @@ use Rattle.grid_model.proofs.Boxes.{some-not-none, one-value}
 use Rattle.grid_model.proofs.Members.{contains-none}
 use Rattle.file_images.specs.Kept.{Counting, PlacedBatch, InDoubt, Kept, OtherHeader, ShutHeader, LooseHeader, MayBeNewest, on_half}
 use Rattle.file_images.specs.Steps.{loosened, none_used, first_by, second_by, with_doubt, with_closed, with_tried, with_root, with_loose, with_shut}
-use Rattle.file_images.specs.Leads.{Standing, updates_in, CountsOn, reach, IsKnown, Lineage, past, rooted_at, MayFollow, LeadsAlong, RootLeads, Leads}
+use Rattle.file_images.specs.Leads.{Standing, updates_in, CountsOn, reach, IsKnown, Lineage, past, lineage_at, MayFollow, LeadsAlong, RootLeads, Leads}
 use Rattle.file_images.specs.LeadingLaws.{IsAhead, BeginsSession, IsBehind, NoneBeyond}
 use Rattle.file_images.proofs.Elements.{from_append, among_these, contains_it}
 use Rattle.file_images.proofs.Chains.{chain_up, chain_above, chain_below}
@@ -68,7 +68,7 @@ module _ {K : ℕ} (k : Kept K) (w : WholeRoot) (m : Standing K) (x : Lineage K)
   }
 
 -- a root that begins a session at a standing leads there
-pub leads_begun : {K : ℕ} (k : Kept K) (m : Standing K) (new : WholeRoot) → BeginsSession k m new → LeadsAlong k new m (rooted_at m)
+pub leads_begun : {K : ℕ} (k : Kept K) (m : Standing K) (new : WholeRoot) → BeginsSession k m new → LeadsAlong k new m (lineage_at m)
 unfolding layout_after
 leads_begun {K} k m new is = record {
   holds = is.holds;

@@ -30,7 +30,8 @@ use Rattle.history_pages.specs.OwnerPages.{as_bucket, owner_page, numbered_bucke
 use Rattle.journal_slots.proofs.Frames.{gate_is_byte}
 use Rattle.file_images.specs.Kept.{PlacedBatch, on_half}
 use Rattle.file_images.specs.Shows.{gate_in, Shows}
-use Rattle.file_images.specs.Leads.{HasStanding, Leads, RootHolds, rooted_at, LeadsAlong, page_named}
+use Rattle.history_pages.specs.KnownPages.{page_named}
+use Rattle.file_images.specs.Leads.{HasStanding, Leads, RootHolds, lineage_at, LeadsAlong}
 use Rattle.file_images.specs.NewFiles.{new_fields, new_area, new_root, new_directory, new_bucket, IsNewFile, new_kept, new_standing}
 use Rattle.file_images.proofs.PagesApart.{few}
 use Rattle.file_images.proofs.Elements.{Among, here, there, from_range}
@@ -176,12 +177,12 @@ module _ (K : ℕ) (s : Shape) (lawful : IsTrue (is_shape s)) (attributes : s.k 
   none_placed (suc h) i p is = absurd (some-not-none p (sym is))
 
   -- the root of a new file leads to its standing, along its layout and the empty table
-  pub new_root_leads : LeadsAlong (new_kept K s) (new_root K s) (new_standing K) (rooted_at (new_standing K))
+  pub new_root_leads : LeadsAlong (new_kept K s) (new_root K s) (new_standing K) (lineage_at (new_standing K))
   new_root_leads = leads_begun (new_kept K s) (new_standing K) (new_root K s) (record { front = refl; holds = new_holds; earlier = λ h i p two is. none_placed h i p is; shut = refl })
 
   -- what a new file keeps leads to its standing
   pub new_leads : Leads (new_kept K s) (new_standing K)
-  new_leads w (inl e) = record { lineage = rooted_at (new_standing K); along = subst (λ (v : WholeRoot). LeadsAlong (new_kept K s) v (new_standing K) (rooted_at (new_standing K))) (sym e) new_root_leads }
+  new_leads w (inl e) = record { lineage = lineage_at (new_standing K); along = subst (λ (v : WholeRoot). LeadsAlong (new_kept K s) v (new_standing K) (lineage_at (new_standing K))) (sym e) new_root_leads }
   new_leads w (inr m) = absurd m
 
 module _ (K : ℕ) (s : Shape) (image : List ℕ) (is : IsNewFile K s image) where

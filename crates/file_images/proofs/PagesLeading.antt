@@ -20,8 +20,10 @@ use Rattle.history_pages.specs.OwnerPages.{owner_page}
 use Rattle.history_pages.proofs.Named.{bucket-named, part-named}
 use Rattle.file_images.specs.Kept.{Kept}
 use Rattle.file_images.specs.Meets.{AreFewer, Covers}
-use Rattle.file_images.specs.Steps.{settle_page, with_settled, ask_nothing, without_pages}
-use Rattle.file_images.specs.Leads.{Standing, page_named, RootHolds, Lineage, LeadsAlong}
+use Rattle.history_pages.specs.KnownPages.{settle_page, ask_nothing}
+use Rattle.file_images.specs.Steps.{with_settled, without_pages}
+use Rattle.history_pages.specs.KnownPages.{page_named}
+use Rattle.file_images.specs.Leads.{Standing, RootHolds, Lineage, LeadsAlong}
 use Rattle.file_images.specs.LeadingLaws.{NamesNone}
 use Rattle.file_images.proofs.Named.{entry-there, named-by-number}
 use Rattle.file_images.proofs.Settling.{set_other, set_same}

@@ -11,7 +11,7 @@ use Rattle.file_roots.proofs.Headers.{header_two}
 use Rattle.file_images.specs.Kept.{Kept, used}
 use Rattle.file_images.specs.Shows.{HasSizes, HoldsPages}
 use Rattle.file_images.specs.Apart.{IsFreePage}
-use Rattle.file_images.specs.Steps.{settle_page}
+use Rattle.history_pages.specs.KnownPages.{settle_page}
 use Rattle.file_images.proofs.PagesApart.{data_apart, table_below, gate_high, gate_below, slot_below}
 use Rattle.file_images.proofs.Frames.{used_slot}
 

@@ -8,7 +8,7 @@ use Rattle.grid_model.specs.Roots.{WholeRoot}
 use Rattle.file_images.specs.Kept.{Barred, PlacedBatch, Shut, InDoubt, MayBeNewest, Kept, on_half}
 use Rattle.file_images.specs.Meets.{Covers}
 use Rattle.file_images.specs.Steps.{with_page, without_page, with_settled, without_pages, with_flying, with_doubt, with_closed, with_tried, with_root, with_loose, with_shut, with_turned}
-use Rattle.file_images.specs.Leads.{Standing, Chain, updates_in, RootHolds, Lineage, past, rooted_at, MayFollow, LeadsAlong, RootLeads, Leads}
+use Rattle.file_images.specs.Leads.{Standing, Chain, updates_in, RootHolds, Lineage, past, lineage_at, MayFollow, LeadsAlong, RootLeads, Leads}
 
 -- a root is ahead of another one that leads to a standing along a lineage, by the first of its batches: it is of the same session, stands behind these, and holds the layout and the table there; each update of the batches after them may be made, those of the batch in doubt too
 pub record IsAhead {K : ℕ} (k : Kept K) (w : WholeRoot) (m : Standing K) (x : Lineage K) (before after : List (LoggedBatch K)) (new : WholeRoot) : Type 0 where
@@ -33,7 +33,7 @@ pub record RootsLead (K : ℕ) : Type 0 where
   pub tried : (k : Kept K) (m : Standing K) (new : Option WholeRoot) (w : WholeRoot) (x : Lineage K) → LeadsAlong k w m x → LeadsAlong (with_tried k new) w m x
   pub placed : (k : Kept K) (m : Standing K) (new w : WholeRoot) (x : Lineage K) → LeadsAlong k w m x → LeadsAlong (with_root k new) w m x
   pub ahead : (k : Kept K) (m : Standing K) (new w : WholeRoot) (x : Lineage K) (before after : List (LoggedBatch K)) → IsAhead k w m x before after new → LeadsAlong k w m x → LeadsAlong k new m (past x before after)
-  pub begins : (k : Kept K) (m : Standing K) (new : WholeRoot) → BeginsSession k m new → LeadsAlong k new m (rooted_at m)
+  pub begins : (k : Kept K) (m : Standing K) (new : WholeRoot) → BeginsSession k m new → LeadsAlong k new m (lineage_at m)
 
 -- all that may be the newest lead where they did: once the other header page is closed; where one that leads there was tried on it; and where one of them is the kept root
 pub record AllRootsLead (K : ℕ) : Type 0 where

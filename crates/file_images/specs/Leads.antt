@@ -1,5 +1,5 @@
 -- What is kept on a file leads from its root to one standing: plain facts, with no disk and no image.
-use Rattle.std.specs.Prelude.{◌≡◌, ◌⊎◌, ◌<◌, ◌≤◌, ◌+◌, ℕ, List, [], ◌∷◌, ◌++◌, map, flat_map, fold, length, slice_get, slice_index, Some, Contains}
+use Rattle.std.specs.Prelude.{◌≡◌, ◌⊎◌, ◌<◌, ◌≤◌, ◌+◌, ℕ, List, [], ◌∷◌, ◌++◌, map, flat_map, fold, length, slice_get, Some, Contains}
 use Rattle.grid_types.specs.declared.layout_change.LoggedUpdate.{LoggedUpdate}
 use Rattle.grid_types.specs.declared.owner.Owner.{Owner}
 use Rattle.grid_types.specs.declared.owner.Owner.TheVariants.{Bucket, Part}
@@ -12,6 +12,7 @@ use Rattle.grid_model.specs.Lone.{opened}
 use Rattle.grid_model.specs.Spellings.{LoggedBatch}
 use Rattle.grid_model.specs.Images.{numbers_of, logged_effect, layout_after, MayRedoAll, Stands, IsShaped}
 use Rattle.grid_model.specs.Roots.{WholeRoot}
+use Rattle.history_pages.specs.KnownPages.{page_named}
 use Rattle.history_pages.specs.OwnerPages.{owner_page}
 use Rattle.file_images.specs.Kept.{Barred, Counting, PlacedBatch, NextSlot, Shut, Flying, InDoubt, MayBeNewest, Kept, on_half}
 
@@ -38,11 +39,6 @@ Chain from (b ∷ bs) to = (b.first ≡ from + 1) × (0 < length b.updates) × C
 -- the updates of batches, in order
 abbrev pub updates_in : {K : ℕ} → List (LoggedBatch K) → List (LoggedUpdate K)
 updates_in bs = flat_map (λ b. b.updates) bs
-
--- the data page that a table area names for an owner
-abbrev pub page_named : Area → Owner → ℕ
-page_named a (Bucket n) = slice_index a.table n
-page_named a (Part p) = slice_index a.parts p
 
 -- the pages that a root names always hold the pages of the owners of a layout that stands over a table, and it names pages for all of these owners and no other
 pub record RootHolds {K : ℕ} (k : Kept K) (w : WholeRoot) (L : Layout K) (t : Table) : Type 0 where
@@ -85,8 +81,8 @@ abbrev pub past : {K : ℕ} → Lineage K → (before after : List (LoggedBatch 
 past x before after = record { layout = layout_after x.layout (updates_in before); table = fold logged_effect x.table (updates_in before); taken = after }
 
 -- the lineage of a root that stands at a standing itself: no batch is taken
-abbrev pub rooted_at : {K : ℕ} → Standing K → Lineage K
-rooted_at m = record { layout = m.layout; table = m.table; taken = [] }
+abbrev pub lineage_at : {K : ℕ} → Standing K → Lineage K
+lineage_at m = record { layout = m.layout; table = m.table; taken = [] }
 
 -- the batch in doubt may be taken behind a lineage: it is of the root's session, begins at the next place, and each update of the lineage and of the batch may be made
 pub record MayFollow {K : ℕ} (k : Kept K) (w : WholeRoot) (x : Lineage K) (place : ℕ) (d : LoggedBatch K) : Type 0 where

@@ -1,8 +1,9 @@
 -- What each step leaves of what a file keeps.
-use Rattle.std.specs.Prelude.{◌≡◌, ℕ, zero, suc, List, [], ◌∷◌, ◌++◌, map, slice_set, slice_index_or, Option, Some, None, fold}
+use Rattle.std.specs.Prelude.{◌≡◌, ℕ, zero, suc, List, [], ◌∷◌, ◌++◌, map, slice_set, Option, Some, None, fold}
 use Rattle.grid_types.specs.declared.shape.Shape.{Shape}
 use Rattle.grid_model.specs.Spellings.{LoggedBatch}
 use Rattle.grid_model.specs.Roots.{WholeRoot}
+use Rattle.history_pages.specs.KnownPages.{settle_page, ask_nothing}
 use Rattle.file_images.specs.Kept.{GateRule, Counting, Barred, Either, PlacedBatch, ShutHeader, LooseHeader, Shut, Flying, InDoubt, Kept, used}
 
 -- a data page was written, and reads as these bytes
@@ -13,17 +14,9 @@ with_page k p bytes = record k { fresh = slice_set k.fresh p (Some bytes) }
 abbrev pub without_page : {K : ℕ} → Kept K → ℕ → Kept K
 without_page k p = record k { fresh = slice_set k.fresh p None }
 
--- a data page always holds what it reads as
-abbrev pub settle_page : (fresh always : List (Option (List ℕ))) → ℕ → List (Option (List ℕ))
-settle_page fresh always p = slice_set always p (slice_index_or fresh p None)
-
 -- what these data pages read as is on the disk for good
 abbrev pub with_settled : {K : ℕ} → Kept K → List ℕ → Kept K
 with_settled k pages = record k { always = fold (settle_page k.fresh) k.always pages }
-
--- nothing is said of a page
-abbrev pub ask_nothing : List (Option (List ℕ)) → ℕ → List (Option (List ℕ))
-ask_nothing pages p = slice_set pages p None
 
 -- these data pages are not asked for any more
 abbrev pub without_pages : {K : ℕ} → Kept K → List ℕ → Kept K

@@ -1,0 +1,3 @@
+//! Where a file stands: what its books and what is kept on it say of each other, and what each step leaves of that. Laws
+//! alone, no code.
+#![tactic(auto)]
