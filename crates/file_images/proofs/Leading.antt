@@ -11,12 +11,13 @@ use Rattle.grid_model.specs.Roots.{WholeRoot}
 use Rattle.grid_model.proofs.Boxes.{some-not-none, one-value}
 use Rattle.grid_model.proofs.Members.{contains-none}
 use Rattle.file_images.specs.Kept.{Counting, PlacedBatch, InDoubt, Kept, OtherHeader, ShutHeader, LooseHeader, MayBeNewest, on_half}
-use Rattle.file_images.specs.Steps.{loosened, none_used, first_by, second_by, with_doubt, with_closed, with_tried, with_root, with_loose, with_shut}
+use Rattle.file_images.specs.Steps.{ruled, loosened, none_used, first_by, second_by, with_doubt, with_slot, with_closed, with_tried, with_root, with_loose, with_shut}
 use Rattle.file_images.specs.Leads.{Standing, updates_in, CountsOn, reach, IsKnown, Lineage, past, lineage_at, MayFollow, LeadsAlong, RootLeads, Leads}
 use Rattle.file_images.specs.LeadingLaws.{IsAhead, BeginsSession, IsBehind, NoneBeyond}
 use Rattle.file_images.proofs.Elements.{from_append, among_these, contains_it}
 use Rattle.file_images.proofs.Chains.{chain_up, chain_above, chain_below}
 use Rattle.file_images.proofs.Clearing.{by_here, by_other, from_loose}
+use Rattle.file_images.proofs.Halves.{old_or_new}
 use Rattle.file_images.proofs.Histories.{holds_over, follows_over, leads_over, shut_no_doubt, reach_up, one_doubt}
 
 -- a root leads where it did, whatever roots are kept
@@ -83,12 +84,12 @@ leads_begun {K} k m new is = record {
 }
 
 -- a batch in doubt that may follow leads nowhere else by itself
-module _ {K : ℕ} (k : Kept K) (m : Standing K) (d : LoggedBatch K) (w : WholeRoot) (x : Lineage K) (none : NoneBeyond k m.place) (follows : MayFollow k w x m.place d) (c : LeadsAlong k w m x) where
-  known_farther : (h i : ℕ) (p : PlacedBatch K) → h < 2 → slice_get (on_half k h) i ≡ Some p → IsKnown w.fields.front x.taken (reach k.next m.place) p → IsKnown w.fields.front x.taken (m.place + length d.updates) p
-  known_farther h i p two at (inl barred) = inl barred
-  known_farther h i p two at (inr (inl low)) = inr (inl low)
-  known_farther h i p two at (inr (inr (inl on))) = inr (inr (inl on))
-  known_farther h i p two at (inr (inr (inr beyond))) = elim (none h i p two at) [
+module _ {K : ℕ} (k : Kept K) (m : Standing K) (d : LoggedBatch K) (w : WholeRoot) (x : Lineage K) (none : NoneBeyond k w m.place) (follows : MayFollow k w x m.place d) (c : LeadsAlong k w m x) where
+  known_farther : (h i : ℕ) (p : PlacedBatch K) → h < 2 → slice_get (on_half k h) i ≡ Some p → p.batch.session ≡ w.fields.session → IsKnown w.fields.front x.taken (reach k.next m.place) p → IsKnown w.fields.front x.taken (m.place + length d.updates) p
+  known_farther h i p two at mine (inl barred) = inl barred
+  known_farther h i p two at mine (inr (inl low)) = inr (inl low)
+  known_farther h i p two at mine (inr (inr (inl on))) = inr (inr (inl on))
+  known_farther h i p two at mine (inr (inr (inr beyond))) = elim (none h i p two at mine) [
     | inl barred ↦ inl barred
     | inr low ↦ absurd (omega (arith, low, beyond, reach_up k.next m.place))
   ]
@@ -98,13 +99,23 @@ module _ {K : ℕ} (k : Kept K) (m : Standing K) (d : LoggedBatch K) (w : WholeR
     holds = holds_over k k.root k.other k.first k.second k.half (InDoubt d) w x.layout x.table c.holds;
     chain = c.chain;
     there = λ b on. let at = c.there b on in (at.0, record { half = at.1.half; slot = at.1.slot; two = at.1.two; there = at.1.there });
-    known = λ h i p two at mine. known_farther h i p two at (c.known h i p two at mine);
+    known = λ h i p two at mine. known_farther h i p two at mine (c.known h i p two at mine);
     sessions = c.sessions;
     makes_table = c.makes_table;
     makes_layout = c.makes_layout;
     may = c.may;
     doubt = λ e is. subst (λ (b : LoggedBatch K). MayFollow (with_doubt k d) w x m.place b) (one_doubt d e is) (follows_over k k.root k.other k.first k.second k.half (InDoubt d) w x m.place d follows);
   }
+
+-- and once it counts, no batch of the root's session begins beyond it
+pub none_beyond : {K : ℕ} (k : Kept K) (place : ℕ) (d : LoggedBatch K) (w : WholeRoot) → k.half < 2 → d.first ≡ place + 1 → 0 < length d.updates → NoneBeyond k w place → NoneBeyond (with_slot k d) w (place + length d.updates)
+none_beyond {K} k place d w two first some none h i p less at mine = elim (old_or_new k (ruled d Counting) two h i p less at) [
+  | inl old ↦ elim (none h i p less old mine) [
+    | inl barred ↦ inl barred
+    | inr low ↦ inr (omega (arith, low))
+  ]
+  | inr new ↦ inr (omega (arith, ap (λ (y : PlacedBatch K). y.batch.first) new, first, some))
+]
 
 -- a half whose batches are all behind a root
 module _ {K : ℕ} (k : Kept K) (h : ℕ) (m : Standing K) (w : WholeRoot) (x : Lineage K) (two : h < 2) (behind_all : IsBehind k w h) (c : LeadsAlong k w m x) (f : List (PlacedBatch K) → List (PlacedBatch K)) (from : (i : ℕ) (p : PlacedBatch K) → slice_get (f (on_half k h)) i ≡ Some p → (q : PlacedBatch K) × (slice_get (on_half k h) i ≡ Some q) × (p.batch ≡ q.batch)) where

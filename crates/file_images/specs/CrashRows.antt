@@ -18,9 +18,9 @@ with_two k b c = with_slot (with_slot (with_turned k) b) c
 abbrev pub behind_two : {K : ℕ} → Standing K → LoggedBatch K → LoggedBatch K → Standing K
 behind_two m b c = behind (behind m b) c
 
--- two batches may follow one behind the other, neither empty: no batch on a slot begins beyond the place; the first may follow behind the lineage of a root, and the second behind that and the first
+-- two batches may follow one behind the other, neither empty: no batch of a root's session begins beyond the place; the first may follow behind its lineage, and the second behind that and the first
 pub record MayBothFollow {K : ℕ} (k : Kept K) (m : Standing K) (w : WholeRoot) (x : Lineage K) (b c : LoggedBatch K) : Type 0 where
-  pub none : NoneBeyond k m.place
+  pub none : NoneBeyond k w m.place
   pub some : 0 < length b.updates
   pub some_more : 0 < length c.updates
   pub first : MayFollow k w x m.place b

@@ -1,5 +1,5 @@
 -- What each step leaves of where a root leads, along a lineage that is named.
-use Rattle.std.specs.Prelude.{◌≡◌, ◌⊎◌, ◌<◌, ◌≤◌, ℕ, List, ◌++◌, slice_get, Option, Some, Contains}
+use Rattle.std.specs.Prelude.{◌≡◌, ◌⊎◌, ◌<◌, ◌≤◌, ◌+◌, ℕ, List, ◌++◌, length, slice_get, Option, Some, Contains}
 use Rattle.grid_model.specs.Lawful.{pages_named}
 use Rattle.grid_model.specs.Lone.{opened}
 use Rattle.grid_model.specs.Spellings.{LoggedBatch}
@@ -7,7 +7,7 @@ use Rattle.grid_model.specs.Images.{MayRedoAll}
 use Rattle.grid_model.specs.Roots.{WholeRoot}
 use Rattle.file_images.specs.Kept.{Barred, PlacedBatch, Shut, InDoubt, MayBeNewest, Kept, on_half}
 use Rattle.file_images.specs.Meets.{Covers}
-use Rattle.file_images.specs.Steps.{with_page, without_page, with_settled, without_pages, with_flying, with_doubt, with_closed, with_tried, with_root, with_loose, with_shut, with_turned}
+use Rattle.file_images.specs.Steps.{with_page, without_page, with_settled, without_pages, with_flying, with_doubt, with_slot, with_closed, with_tried, with_root, with_loose, with_shut, with_turned}
 use Rattle.file_images.specs.Leads.{Standing, Chain, updates_in, RootHolds, Lineage, past, lineage_at, MayFollow, LeadsAlong, RootLeads, Leads}
 
 -- a root is ahead of another one that leads to a standing along a lineage, by the first of its batches: it is of the same session, stands behind these, and holds the layout and the table there; each update of the batches after them may be made, those of the batch in doubt too
@@ -45,17 +45,18 @@ pub record AllRootsLead (K : ℕ) : Type 0 where
 abbrev pub IsBehind : {K : ℕ} → Kept K → WholeRoot → ℕ → Type 0
 IsBehind {K} k w h = (i : ℕ) (p : PlacedBatch K) → slice_get (on_half k h) i ≡ Some p → p.batch.session ≡ w.fields.session → p.batch.first ≤ w.fields.front
 
--- no batch on a slot begins beyond a place, but for one that is barred
-abbrev pub NoneBeyond : {K : ℕ} → Kept K → ℕ → Type 0
-NoneBeyond {K} k place = (h i : ℕ) (p : PlacedBatch K) → h < 2 → slice_get (on_half k h) i ≡ Some p → (p.gate ≡ Barred) ⊎ (p.batch.first ≤ place)
+-- no batch on a slot that is of a root's session begins beyond a place, but for one that is barred
+abbrev pub NoneBeyond : {K : ℕ} → Kept K → WholeRoot → ℕ → Type 0
+NoneBeyond {K} k w place = (h i : ℕ) (p : PlacedBatch K) → h < 2 → slice_get (on_half k h) i ≡ Some p → p.batch.session ≡ w.fields.session → (p.gate ≡ Barred) ⊎ (p.batch.first ≤ place)
 
--- a root leads where it did, along the same lineage: while a batch is just written on the next slot; where one is in doubt that may follow; where the halves' roles are exchanged; and where a half is cleared of which the root has all batches
+-- a root leads where it did, along the same lineage: while a batch is just written on the next slot; where one is in doubt that may follow; where the halves' roles are exchanged; and where a half is cleared of which the root has all batches; and if no batch of its session begins beyond a place, none begins beyond one that counts from there on
 pub record JournalLeads (K : ℕ) : Type 0 where
   pub flying : (k : Kept K) (m : Standing K) (w : WholeRoot) (x : Lineage K) → LeadsAlong k w m x → LeadsAlong (with_flying k) w m x
-  pub doubted : (k : Kept K) (m : Standing K) (d : LoggedBatch K) (w : WholeRoot) (x : Lineage K) → k.next ≡ Shut → NoneBeyond k m.place → MayFollow k w x m.place d → LeadsAlong k w m x → LeadsAlong (with_doubt k d) w m x
+  pub doubted : (k : Kept K) (m : Standing K) (d : LoggedBatch K) (w : WholeRoot) (x : Lineage K) → k.next ≡ Shut → NoneBeyond k w m.place → MayFollow k w x m.place d → LeadsAlong k w m x → LeadsAlong (with_doubt k d) w m x
   pub turned : (k : Kept K) (m : Standing K) (w : WholeRoot) (x : Lineage K) → LeadsAlong k w m x → LeadsAlong (with_turned k) w m x
   pub loosened : (k : Kept K) (h : ℕ) (m : Standing K) (w : WholeRoot) (x : Lineage K) → h < 2 → IsBehind k w h → LeadsAlong k w m x → LeadsAlong (with_loose k h) w m x
   pub shut : (k : Kept K) (h : ℕ) (m : Standing K) (w : WholeRoot) (x : Lineage K) → h < 2 → IsBehind k w h → LeadsAlong k w m x → LeadsAlong (with_shut k h) w m x
+  pub none_beyond : (k : Kept K) (place : ℕ) (d : LoggedBatch K) (w : WholeRoot) → k.half < 2 → d.first ≡ place + 1 → 0 < length d.updates → NoneBeyond k w place → NoneBeyond (with_slot k d) w (place + length d.updates)
 
 -- none of these data pages is named by a root
 abbrev pub NamesNone : WholeRoot → List ℕ → Type 0

@@ -1,6 +1,6 @@
 use Rattle.file_images.specs.Steps.{other_half}
 use Rattle.file_images.proofs.Histories.{leads_flying, leads_over}
-use Rattle.file_images.proofs.Leading.{leads_doubted, leads_loosened, leads_cleared}
+use Rattle.file_images.proofs.Leading.{leads_doubted, none_beyond, leads_loosened, leads_cleared}
 use Rattle.file_images.proofs.leading_laws.leading_journal_law.Goals as goal
 
 pub returns : goal.returns
@@ -10,4 +10,5 @@ returns g c = record {
   turned = λ k m w x along. leads_over k w m x along k.root k.other (other_half k.half);
   loosened = λ k h m w x two behind along. leads_loosened k h m w x two behind along;
   shut = λ k h m w x two behind along. leads_cleared k h m w x two behind along;
+  none_beyond = λ k place d w two first some none. none_beyond k place d w two first some none;
 }
