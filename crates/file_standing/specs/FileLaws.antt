@@ -28,14 +28,14 @@ ClaimedUnkept K = (b : Books) (k : Kept K) (m : Standing K) (p seat : ℕ) (byte
 
 -- sweeps, claims and what is given back leave a file where it stands, and a lone caller's state as it is; and after a sweep of a file with no claimed page as many pages are free as a lone caller counts
 pub record PageStepsStay (K : ℕ) : Type 0 where
-  pub swept : (b : Books) (k : Kept K) (m : Standing K) → IsFile b k m → IsFile (swept_books b) (swept_kept b k) m
+  pub sweep : (b : Books) (k : Kept K) (m : Standing K) → IsFile b k m → IsFile (swept_books b) (swept_kept b k) m
   pub covered : (b : Books) (k : Kept K) → Covers k (swept_kept b k)
-  pub swept_alone : (b : Books) (k : Kept K) (m : Standing K) (s : State K) → IsFile b k m → IsAlone b k m s → IsAlone (swept_books b) (swept_kept b k) m s
-  pub claimed : (b : Books) (k : Kept K) (m : Standing K) (seat count : ℕ) → IsFile b k m → IsFile (record b { pages = claim_all seat (take count (free_pages b.pages)) b.pages }) k m
-  pub claimed_alone : (b : Books) (k : Kept K) (m : Standing K) (s : State K) (seat count : ℕ) → IsFile b k m → IsAlone b k m s → IsAlone (record b { pages = claim_all seat (take count (free_pages b.pages)) b.pages }) k m s
-  pub given_back : (b : Books) (k : Kept K) (m : Standing K) (seat : ℕ) → IsFile b k m → IsFile (record b { pages = given_back seat b.pages }) k m
-  pub given_back_alone : (b : Books) (k : Kept K) (m : Standing K) (s : State K) (seat : ℕ) → IsFile b k m → IsAlone b k m s → IsAlone (record b { pages = given_back seat b.pages }) k m s
-  pub free : (b : Books) (k : Kept K) (m : Standing K) (s : State K) → IsFile b k m → IsAlone b k m s → count_by is_claimed b.pages ≡ 0 → count_by is_free (swept_books b).pages ≡ free b.shape s
+  pub sweep_alone : (b : Books) (k : Kept K) (m : Standing K) (s : State K) → IsFile b k m → IsAlone b k m s → IsAlone (swept_books b) (swept_kept b k) m s
+  pub claim : (b : Books) (k : Kept K) (m : Standing K) (seat count : ℕ) → IsFile b k m → IsFile (record b { pages = claim_all seat (take count (free_pages b.pages)) b.pages }) k m
+  pub claim_alone : (b : Books) (k : Kept K) (m : Standing K) (s : State K) (seat count : ℕ) → IsFile b k m → IsAlone b k m s → IsAlone (record b { pages = claim_all seat (take count (free_pages b.pages)) b.pages }) k m s
+  pub giving_back : (b : Books) (k : Kept K) (m : Standing K) (seat : ℕ) → IsFile b k m → IsFile (record b { pages = given_back seat b.pages }) k m
+  pub giving_back_alone : (b : Books) (k : Kept K) (m : Standing K) (s : State K) (seat : ℕ) → IsFile b k m → IsAlone b k m s → IsAlone (record b { pages = given_back seat b.pages }) k m s
+  pub counted : (b : Books) (k : Kept K) (m : Standing K) (s : State K) → IsFile b k m → IsAlone b k m s → count_by is_claimed b.pages ≡ 0 → count_by is_free (swept_books b).pages ≡ free b.shape s
 
 -- a change whose new pages were written, and whose batch may be committed on the next slot: while it is committed, all leads to the standing before it, or behind it; once it is committed and published, the file stands behind it, and a lone caller's state is the one after the update
 pub record CommitStands (K : ℕ) : Type 0 where

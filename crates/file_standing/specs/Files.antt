@@ -1,13 +1,12 @@
 -- What the books of a file and what the file keeps say of each other: where the file stands.
-use Rattle.std.specs.Prelude.{◌≡◌, ◌<◌, ◌≤◌, ℕ, fold, length, replicate, Some, None}
+use Rattle.std.specs.Prelude.{◌≡◌, ◌<◌, ◌≤◌, ℕ, fold, length, replicate, slice_get, Some, None}
 use Rattle.grid_types.specs.declared.layout_change.LoggedUpdate.{LoggedUpdate}
 use Rattle.grid_model.specs.LayoutLaws.{StandsOver}
 use Rattle.grid_model.specs.Lone.{State, opened}
 use Rattle.grid_model.specs.Images.{redo}
 use Rattle.grid_model.specs.Roots.{WholeRoot}
-use Rattle.file_images.specs.Kept.{Shut, MayBeNewest, IsTried, Kept, used}
+use Rattle.file_images.specs.Kept.{PlacedBatch, Shut, MayBeNewest, IsTried, Kept, on_half, used}
 use Rattle.file_images.specs.Leads.{Standing, Lineage, updates_in, LeadsAlong, Leads}
-use Rattle.file_images.specs.LeadingLaws.{NoneBeyond}
 use Rattle.layout_pages.specs.Holding.{HoldLayout, NamesCurrent}
 use Rattle.kept_pages.specs.Counts.{CountsRoot}
 use Rattle.file_books.specs.Books.{Books}
@@ -29,6 +28,10 @@ pub record AgreeWith {K : ℕ} (b : Books) (k : Kept K) : Type 0 where
   pub first : used k 0 ≡ b.first_used
   pub second : used k 1 ≡ b.second_used
 
+-- each batch on a slot that is of a root's session begins at or below a place
+abbrev pub NoneAhead : {K : ℕ} → Kept K → WholeRoot → ℕ → Type 0
+NoneAhead {K} k w place = (h i : ℕ) (p : PlacedBatch K) → h < 2 → slice_get (on_half k h) i ≡ Some p → p.batch.session ≡ w.fields.session → p.batch.first ≤ place
+
 -- a root that may be the newest leads to a standing along a lineage that the books know: the pages that it names are current at its front, and it counts as a lone caller's state behind the lineage; and no batch of its session begins beyond the place
 pub record Follows {K : ℕ} (b : Books) (k : Kept K) (m : Standing K) (w : WholeRoot) (x : Lineage K) : Type 0 where
   pub along : LeadsAlong k w m x
@@ -36,7 +39,7 @@ pub record Follows {K : ℕ} (b : Books) (k : Kept K) (m : Standing K) (w : Whol
   pub counts : CountsRoot b.pages b.front w.fields.front (state_along w x)
   pub before : w.fields.front ≤ b.front
   pub session : w.fields.session ≡ b.session
-  pub none : NoneBeyond k w m.place
+  pub none : NoneAhead k w m.place
 
 -- a root follows along some lineage
 pub record FollowsSome {K : ℕ} (b : Books) (k : Kept K) (m : Standing K) (w : WholeRoot) : Type 0 where
