@@ -25,6 +25,7 @@ pub mod Leading
 pub mod PagesLeading
 pub mod RootMoments
 pub mod NewFile
+pub mod Wholes
 pub mod NewImage
 pub mod TwoPlaced
 pub mod Crashes

@@ -1,9 +1,9 @@
 -- The image of a new file is one: its pages stand in their order, and each has all its bytes.
-use Rattle.std.proofs.Common.{◌≡◌, ◌<◌, ◌≤◌, ◌+◌, ◌*◌, ◌-◌, ◌/◌, ◌%◌, ℕ, zero, suc, Bool, true, false, cond, List, [], ◌∷◌, ◌++◌, length, map, take, drop, get_or, slice_index, replicate, All, IsTrue, codes, refl, sym, ap, ◌∙◌, append_assoc, length-append, arith}
+use Rattle.std.proofs.Common.{◌≡◌, ◌<◌, ◌≤◌, ◌+◌, ◌*◌, ◌-◌, ◌/◌, ◌%◌, ℕ, zero, suc, Bool, true, false, cond, List, [], ◌∷◌, ◌++◌, length, map, take, drop, get_or, replicate, All, IsTrue, codes, refl, ap, ◌∙◌, length-append, arith}
 use Rattle.std.specs.Prelude.{nat_lt, ◌==◌}
 use Rattle.std.specs.List.{flat_map}
 use Rattle.std.proofs.Math.Seq.{drop-append-add}
-use Rattle.std.proofs.lemmas.List.{length-replicate, length-map, length-take, get_or-replicate, get_or_append_left, get_or-append_right, get_or-drop, take_at}
+use Rattle.std.proofs.lemmas.List.{length-replicate, length-map, length-take, get_or_append_left, get_or-append_right, take_at}
 use Rattle.std.proofs.lemmas.List.Elements.{All-cons, All-nil, All-tail, All-replicate, All-append, All-map}
 use Rattle.std.proofs.lemmas.List.FromFn.{length-range_with_len, get_or-map-range_with_len}
 use Rattle.grid_types.specs.declared.shape.Shape.{Shape}
@@ -15,7 +15,6 @@ use Rattle.grid_types.proofs.Places.{within-limits, table-page, gate-page, data-
 use Rattle.page_fields.specs.Fields.{bytes_of}
 use Rattle.page_fields.specs.Padded.{padded, numbers}
 use Rattle.page_fields.proofs.BytesOf.{length-bytes_of, length-numbers, length-padded}
-use Rattle.page_fields.proofs.Places.{behind}
 use Rattle.root_pages.proofs.Heads.{length-area_head}
 use Rattle.root_pages.proofs.Shapes.{length-shape_bytes}
 use Rattle.grid_model.specs.Lists.{below}
@@ -24,6 +23,7 @@ use Rattle.grid_model.specs.Scales.{scale_of}
 use Rattle.grid_model.specs.Spellings.{page, shape_bytes, root_bytes, area_head, scale_spelling, list_spelling, bucket_table_spelling, directory_spelling, bucket_head, bucket_spelling, gate_spelling}
 use Rattle.grid_model.specs.Images.{half_of_scale, area_spelling}
 use Rattle.file_images.specs.NewFiles.{new_fields, new_area, new_directory, new_bucket, IsNewFile, blank_pages, header_pages, table_areas, half_pages, data_pages, new_pages, new_image}
+use Rattle.file_images.proofs.Wholes.{length_root, root_front, is_new}
 
 -- these are as many bytes as a page has
 abbrev IsPage : List ℕ → Type 0
@@ -100,16 +100,6 @@ bucket_is_page K few =
     let head : length (bucket_head (new_bucket K)) ≡ 96 = omega (arith, length-append (bytes_of 4 0) (bytes_of 2 0 ++ middle), length-append (bytes_of 2 0) middle, length-bytes_of 4 0, length-bytes_of 2 0, last) in
     length-append (bucket_head (new_bucket K)) (padded 4000 []) ∙ omega (arith, head, length-padded 4000 [] (omega arith))
 
-length_root : (K : ℕ) → K ≤ 4 → length (root_bytes (new_fields K)) ≡ 56
-unfolding root_bytes
-length_root K few =
-    let eight = bytes_of 8 0 in
-    let four = bytes_of 4 1 in
-    let counts = padded 16 (numbers 4 (replicate K 0)) in
-    let sixteen : length counts ≡ 16 = length-padded 16 (numbers 4 (replicate K 0)) (omega (arith, few, length-numbers 4 (replicate K 0), length-replicate {A = ℕ} K 0)) in
-    let tail = counts ++ (four ++ four) in
-    omega (arith, length-append eight (eight ++ (eight ++ (eight ++ tail))), length-append eight (eight ++ (eight ++ tail)), length-append eight (eight ++ tail), length-append eight tail, length-append counts (four ++ four), length-append four four, sixteen, length-bytes_of 8 0, length-bytes_of 4 1)
-
 module _ (K : ℕ) (s : Shape) (lawful : IsTrue (is_shape s)) (attributes : s.k ≡ K) where
   few_attributes : K ≤ 4
   few_attributes = omega (arith, attributes, (within-limits s lawful).few_attributes)
@@ -118,7 +108,7 @@ module _ (K : ℕ) (s : Shape) (lawful : IsTrue (is_shape s)) (attributes : s.k 
   blank_are_pages n = All-replicate IsPage n (replicate 4096 0) (length-replicate {A = ℕ} 4096 0)
 
   abbrev front : List ℕ
-  front = shape_bytes s ++ (padded 8 (1 ∷ []) ++ root_bytes (new_fields K))
+  front = root_front K s
 
   length_front : length front ≡ 128
   length_front =
@@ -217,52 +207,13 @@ module _ (K : ℕ) (s : Shape) (lawful : IsTrue (is_shape s)) (attributes : s.k 
   in_gates (suc zero) two = in_second (places.gate_page s 1) 0 (omega (arith, (gate-page s).1, enough)) (omega (arith, (gate-page s).1))
   in_gates (suc (suc h)) two = absurd (omega (arith, two))
 
-  zeroth_is : page_of 0 (new_image K s) ≡ front ++ replicate (4096 - length front) 0
-  unfolding padded
-  zeroth_is = listed 0 (omega (arith, enough))
-
-  first_is : page_of 1 (new_image K s) ≡ shape_bytes s ++ replicate (4096 - length (shape_bytes s)) 0
-  unfolding padded
-  first_is = listed 1 (omega (arith, enough))
-
-  -- the front of header page 0, field by field
-  abbrev gate_and_rest : List ℕ
-  gate_and_rest = padded 8 (1 ∷ []) ++ (root_bytes (new_fields K) ++ replicate (4096 - length front) 0)
-
-  zeroth_at0 : page_of 0 (new_image K s) ≡ shape_bytes s ++ gate_and_rest
-  zeroth_at0 = zeroth_is ∙ simp append_assoc
-
-  zeroth_at64 : drop 64 (page_of 0 (new_image K s)) ≡ gate_and_rest
-  zeroth_at64 = behind 0 64 64 (page_of 0 (new_image K s)) (shape_bytes s) gate_and_rest zeroth_at0 (length-shape_bytes s) refl
-
-  zeroth_at72 : drop 72 (page_of 0 (new_image K s)) ≡ root_bytes (new_fields K) ++ replicate (4096 - length front) 0
-  zeroth_at72 = behind 64 8 72 (page_of 0 (new_image K s)) (padded 8 (1 ∷ [])) (root_bytes (new_fields K) ++ replicate (4096 - length front) 0) zeroth_at64 (length-padded 8 (1 ∷ []) (omega arith)) refl
-
-  gate_is : slice_index gate_and_rest 0 ≡ 1
-  unfolding padded
-  gate_is = refl
-
   -- the image of a new file is one
   pub is_new_file : IsNewFile K s (new_image K s)
-  is_new_file = record {
-    shape = record {
-      lawful = lawful;
-      attributes = attributes;
-      first = ap (take 64) zeroth_at0 ∙ take_at (shape_bytes s) gate_and_rest 64 (length-shape_bytes s);
-      second = ap (take 64) first_is ∙ take_at (shape_bytes s) (replicate (4096 - length (shape_bytes s)) 0) 64 (length-shape_bytes s);
-      long = omega (arith, length_joined (new_pages K s) all_are_pages, page_count);
-    };
-    opened = sym (get_or-drop 64 (page_of 0 (new_image K s)) 0 0) ∙ ap (λ (bytes : List ℕ). slice_index bytes 0) zeroth_at64 ∙ gate_is;
-    fields = ap (take 56) zeroth_at72 ∙ take_at (root_bytes (new_fields K)) (replicate (4096 - length front) 0) 56 (length_root K few_attributes);
-    closed = λ e. absurd (omega (arith, e, second_gate));
+  is_new_file = is_new K s (new_image K s) lawful attributes (omega (arith, length_joined (new_pages K s) all_are_pages, page_count)) (record {
+    zeroth = listed 0 (omega (arith, enough));
+    first = listed 1 (omega (arith, enough));
     area = in_area;
     gates = in_gates;
     directory = in_data (data_page s 0) 0 (omega (arith, data-page-is s 0, enough)) (data-page-is s 0);
     bucket = in_data (data_page s 1) 1 (omega (arith, data-page-is s 1, enough)) (data-page-is s 1);
-  }
-    where
-      second_gate : slice_index (page_of 1 (new_image K s)) 64 ≡ 0
-      second_gate =
-          ap (λ (bytes : List ℕ). slice_index bytes 64) first_is
-          ∙ get_or-append_right (shape_bytes s) (replicate (4096 - length (shape_bytes s)) 0) 64 64 0 (length-shape_bytes s) (omega arith)
-          ∙ get_or-replicate (4096 - length (shape_bytes s)) 0 0 0 (omega (arith, length-shape_bytes s))
+  })

@@ -2,4 +2,3 @@ pub mod Entries
 pub mod FieldByField
 pub mod Numbered
 pub mod Growing
-pub mod Wholes

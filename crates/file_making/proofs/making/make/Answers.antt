@@ -1,13 +1,28 @@
-use Rattle.std.proofs.Common.{◌≡◌, ◌≤◌, ◌*◌, ◌∙◌, ℕ, List, length, refl, sym, subst, arith}
+use Rattle.std.proofs.Common.{◌≡◌, ◌≤◌, ◌*◌, ◌∙◌, ℕ, List, length, IsTrue, refl, sym, subst, arith}
 use Rattle.std.proofs.lemmas.Result.{on_ok_weaker}
 use Rattle.grid_types.specs.declared.shape.Shape.{Shape}
-use Rattle.grid_types.specs.Shapes.{file_pages}
+use Rattle.grid_types.specs.FilePages.{HeaderPage, AreaPage, GatePage, DataPage}
+use Rattle.grid_types.specs.Shapes.{is_shape, file_pages}
+use Rattle.grid_types.proofs.Places.{within-limits}
 use Rattle.file_roots.proofs.Outcomes.{on_ok_also, on_ok_both}
 use Rattle.file_images.specs.NewFiles.{IsNewFile}
 use Rattle.file_images.proofs.NewFile.{new_has_standing}
+use Rattle.file_images.proofs.Wholes.{is_new as by_pages}
 use Rattle.file_making.specs.NewPages.{HasNewPages}
-use Rattle.file_making.proofs.Wholes.{is_new}
 use Rattle.file_making.proofs.making.make.Goals as goal
+
+-- an image with the pages of a new file is that of a new file
+is_new : (K : ℕ) (s : Shape) (image : List ℕ) → IsTrue (is_shape s) → s.k ≡ K → file_pages s * 4096 ≤ length image → HasNewPages K s image → IsNewFile K s image
+is_new K s image lawful attributes long has =
+    let some = (within-limits s lawful).some_pages in
+    by_pages K s image lawful attributes long (record {
+      zeroth = has.each (HeaderPage 0) (omega arith);
+      first = has.each (HeaderPage 1) (omega arith);
+      area = λ i lt. has.each (AreaPage 0 i) (omega arith, lt);
+      gates = λ h two. has.each (GatePage h) two;
+      directory = has.each (DataPage 0) (omega (arith, some));
+      bucket = has.each (DataPage 1) (omega (arith, some));
+    })
 
 pub returns-clause-pages : goal.returns-clause-pages
 returns-clause-pages g c = λ h.
