@@ -1,5 +1,5 @@
 -- What is promised of the pages that a root keeps, and of those that are free.
-use Rattle.std.specs.Prelude.{◌≡◌, ◌<◌, ◌≤◌, ◌+◌, ℕ, List, [], ◌∷◌, take, length, nat_lt, Option, Contains}
+use Rattle.std.specs.Prelude.{◌≡◌, ◌≤◌, ◌+◌, ℕ, List, [], ◌∷◌, take, length, nat_lt, Option, Contains}
 use Rattle.std.specs.List.{count_by, list_any}
 use Rattle.grid_types.specs.declared.layout_change.LayoutChange.{LayoutChange}
 use Rattle.grid_types.specs.declared.shape.Shape.{Shape}
@@ -20,7 +20,7 @@ use Rattle.kept_pages.specs.Counts.{CountsRoot}
 
 -- at its own place a root has each owner's page, and keeps no other
 abbrev pub RootsCount : ℕ → Type 0
-RootsCount K = (states : List PageState) (always : List (Option (List ℕ))) (front : ℕ) (L : Layout K) (t : Table) → HoldLayout states always front L t → CountsRoot states front front (opened t L front)
+RootsCount K = (shape : Shape) (states : List PageState) (always : List (Option (List ℕ))) (front : ℕ) (L : Layout K) (t : Table) → StandsOver shape L t → HoldLayout states always front L t → CountsRoot states front front (opened t L front)
 
 -- a change counts as a lone caller counts it
 abbrev pub ChangeCounts : ℕ → Type 0
