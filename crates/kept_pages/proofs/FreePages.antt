@@ -102,7 +102,7 @@ of-root root (Live o from (Some to)) = by (is_current_at root (Live o from (Some
     by false = refl
 
 would-free : {K : ℕ} (states : List PageState) (front root : ℕ) (s : State K) → CountsRoot states front root s → list_any (is_of_roots [] (root ∷ [])) states ≡ nat_lt 0 s.kept
-would-free states front root s counts = any-alike (is_of_roots [] (root ∷ [])) (is_of_root root) states (of-root root) ∙ any-counts (is_of_root root) states ∙ ap (nat_lt 0) (sym counts.kept)
+would-free states front root s counts = any-alike (is_of_roots [] (root ∷ [])) (is_of_root root) states (λ q x has. of-root root x) ∙ any-counts (is_of_root root) states ∙ ap (nat_lt 0) (sym counts.kept)
 
 pub free-count : {K : ℕ} → FreeCount K
 free-count = record { fit = all-fit; exact = exact-free; most = most-free; would_free = would-free }

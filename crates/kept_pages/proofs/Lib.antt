@@ -3,3 +3,7 @@ pub mod Listed
 pub mod Steps
 pub mod Starts
 pub mod FreePages
+pub mod Rooted
+pub mod Renewed
+pub mod Publications
+pub mod Changes

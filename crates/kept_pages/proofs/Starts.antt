@@ -52,7 +52,7 @@ one-passes false = refl
 -- each owner has its page at the front
 still-owners : {K : ℕ} (states : List PageState) (always : List (Option (List ℕ))) (front : ℕ) (L : Layout K) (t : Table) → HoldLayout states always front L t → (o : Owner) → has_owner (owners L) o ≡ list_any (is_still o front front) states
 still-owners states always front L t holds o =
-    sym (has-page L t o) ∙ sym (one-passes (is_some (owner_page L t o))) ∙ ap (nat_lt 0) (sym (holds.served.one o)) ∙ sym (any-counts (shows o front) states) ∙ sym (any-alike (is_still o front front) (shows o front) states (still-shown o front))
+    sym (has-page L t o) ∙ sym (one-passes (is_some (owner_page L t o))) ∙ ap (nat_lt 0) (sym (holds.served.one o)) ∙ sym (any-counts (shows o front) states) ∙ sym (any-alike (is_still o front front) (shows o front) states (λ q x has. still-shown o front x))
 
 -- no replaced page was current at the front
 none-kept : (front : ℕ) (states : List PageState) → Settled front states → count_by (is_of_root front) states ≡ 0

@@ -1,9 +1,15 @@
 //! The laws of the pages that a root keeps, as contracts of functions without code.
-ghost use Rattle.kept_pages.specs.CountLaws.{FreeCount, RootsCount, StepsCount};
+ghost use Rattle.kept_pages.specs.CountLaws.{ChangeCounts, FreeCount, RootsCount, StepsCount};
 
 /// At its own place a root has each owner's page, and keeps no other.
 pub fn root_count_law<const K: usize>()
     ensures { RootsCount K }
+{}
+
+/// A change counts as a lone caller counts it: its owners are rooted no more, and for each that was the root keeps one
+/// page more.
+pub fn change_count_law<const K: usize>()
+    ensures { ChangeCounts K }
 {}
 
 /// Sweeps that keep the root's place, claims, and what is given back leave what a lone caller counts as it was.

@@ -3,4 +3,4 @@
 
 mod laws;
 
-pub use laws::{free_count_law, root_count_law, step_count_law};
+pub use laws::{change_count_law, free_count_law, root_count_law, step_count_law};
