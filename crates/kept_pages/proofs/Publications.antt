@@ -120,8 +120,8 @@ module _ (root at : ℕ) (low : root < at) where
       let first = ok.claimed 0 (omega arith) in
       current-published xs (with_newest x.page x.owner at states) (later x.page at x.owner (pages_of xs) states ok)
       ∙ count_same (is_current_at root) states (with_newest x.page x.owner at states) (λ q.
-          newest-unseen (is_current_at root) x.page first.0 at x.owner states first.1 refl (unseen-current x.owner) q
-          ∙ map_same (is_current_at root) (with_end x.owner at) states q (current-ended x.owner at root low))
+      newest-unseen (is_current_at root) x.page first.0 at x.owner states first.1 refl (unseen-current x.owner) q
+      ∙ map_same (is_current_at root) (with_end x.owner at) states q (current-ended x.owner at root low))
 
   current-vanished : (os : List Owner) (states : List PageState) → count_by (is_current_at root) (all_vanished at os states) ≡ count_by (is_current_at root) states
   current-vanished [] states = refl
@@ -140,7 +140,7 @@ module _ (root at : ℕ) (low : root < at) where
       now-published o xs (with_newest x.page x.owner at states) (later x.page at x.owner (pages_of xs) states ok)
       ∙ ap (λ (b : Bool). not (list_any (same_owner o) (map (λ x. x.owner) xs)) && b)
       (any-same (is_now o root) (map (with_end x.owner at) states) (with_newest x.page x.owner at states) (newest-unseen (is_now o root) x.page first.0 at x.owner states first.1 refl (unseen-now o x.owner))
-          ∙ any-mapped (is_now o root) (with_end x.owner at) (not (same_owner o x.owner)) states (now-ended o x.owner at root))
+      ∙ any-mapped (is_now o root) (with_end x.owner at) (not (same_owner o x.owner)) states (now-ended o x.owner at root))
       ∙ neither (list_any (same_owner o) (map (λ x. x.owner) xs)) (same_owner o x.owner) (list_any (is_now o root) states)
 
   now-vanished : (o : Owner) (os : List Owner) (states : List PageState) → list_any (is_now o root) (all_vanished at os states) ≡ (not (list_any (same_owner o) os) && list_any (is_now o root) states)

@@ -17,6 +17,7 @@ use Rattle.page_states.specs.Effects.{freed}
 use Rattle.page_states.specs.Laws.{Serves, Settled, is_of_root}
 use Rattle.page_states.proofs.OwnersCounted.{current_pages_are_owners}
 use Rattle.page_states.proofs.SettledPlaces.{freeing_settles}
+use Rattle.page_states.proofs.Shown.{and_false, and_true}
 use Rattle.kept_pages.specs.Counts.{is_still}
 use Rattle.kept_pages.proofs.Tallies.{any-counts, at-most-one, count-mapped, count-sum}
 use Rattle.kept_pages.proofs.Listed.{in-order-length, listed-once}
@@ -41,33 +42,18 @@ current-left : (root : ℕ) (x : PageState) → is_current (freed (is_since root
 current-left root x = by (is_current_at root x)
   where
     by : (b : Bool) → is_current (cond (not b) Free x) ≡ (is_current x && b)
-    by true = stays (is_current x)
-      where
-        stays : (a : Bool) → a ≡ (a && true)
-        stays true = refl
-        stays false = refl
-    by false = gone (is_current x)
-      where
-        gone : (a : Bool) → false ≡ (a && false)
-        gone true = refl
-        gone false = refl
+    by true = sym (and_true (is_current x))
+    by false = sym (and_false (is_current x))
 
 -- and an owner's at the front is one that it still has
 shown-left : (o : Owner) (front root : ℕ) (x : PageState) → shows o front (freed (is_since root) x) ≡ is_still o front root x
 shown-left o front root x = by (is_current_at root x)
   where
     by : (b : Bool) → shows o front (cond (not b) Free x) ≡ (shows o front x && b)
-    by true = stays (shows o front x)
-      where
-        stays : (a : Bool) → a ≡ (a && true)
-        stays true = refl
-        stays false = refl
-    by false = gone (shows o front x)
-      where
-        gone : (a : Bool) → false ≡ (a && false)
-        gone true = refl
-        gone false = refl
+    by true = sym (and_true (shows o front x))
+    by false = sym (and_false (shows o front x))
 
+-- two tests together pass at most as often as the first, and one test at most once
 less-often : (a b : Bool) → cond {A = ℕ} (a && b) 1 0 ≤ cond a 1 0
 less-often true true = omega arith
 less-often true false = omega arith
@@ -77,6 +63,7 @@ once-few : (b : Bool) → cond {A = ℕ} b 1 0 ≤ 1
 once-few true = omega arith
 once-few false = omega arith
 
+-- there is something exactly where the test is true
 some-where : (b : Bool) → once is_some (cond {A = Option (List ℕ)} b (Some []) None) ≡ cond b 1 0
 some-where true = refl
 some-where false = refl
