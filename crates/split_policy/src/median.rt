@@ -1,13 +1,10 @@
 //! The rule of the median.
-ghost use Rattle.std.specs.Prelude.{◌≡◌, ◌<◌, ◌≤◌, length, not, IsTrue, IfSome};
+ghost use Rattle.std.specs.Prelude.{◌≡◌, ◌≤◌, length};
 ghost use Rattle.grid_types.specs.declared.sizes.TheConstants.{MOST_ATTRIBUTES};
-ghost use Rattle.grid_types.specs.Regions.{is_within};
-ghost use Rattle.grid_model.specs.Lists.{is_among};
-ghost use Rattle.grid_model.specs.Scales.{scale_of};
-ghost use Rattle.grid_model.specs.Cuts.{divides, may_grow, cut};
+ghost use Rattle.grid_model.specs.Cuts.{cut};
 ghost use Rattle.linear_scales.specs.Limited.{scales_of};
 ghost use Rattle.split_policy.specs.declared.rule.TheConstants.{MOST_ROWS};
-ghost use Rattle.split_policy.specs.Rows.{keys_of, LieIn};
+ghost use Rattle.split_policy.specs.Rows.{keys_of};
 
 use crate::existing::best_existing;
 use crate::refinement::first_refinement;
@@ -54,22 +51,7 @@ impl<const K: usize> CutRule<K> for Median {
         region: &Region<K>,
         turn: u8,
         shape: &Shape,
-    ) -> Option<Cut>
-        requires attributes { K ≤ MOST_ATTRIBUTES }
-        requires few { length rows.now ≤ MOST_ROWS }
-        ensures value { result ≡ cut shape.now (scales_of scales.now)
-            (record { region = region.now; turn = turn }) (keys_of rows.now) }
-        ensures attribute { IfSome result (λ c. c.attribute < K) }
-        ensures divides { IfSome result
-            (λ c. IsTrue (divides (keys_of rows.now) c.attribute c.value)) }
-        ensures within { LieIn region.now rows.now
-            → IfSome result (λ c. IsTrue (is_within region.now c.attribute c.value)) }
-        ensures fresh { LieIn region.now rows.now
-            → IfSome result (λ c.
-            c.fresh ≡ not (is_among (scale_of (scales_of scales.now) c.attribute) c.value)) }
-        ensures limits { IfSome result (λ c. IsTrue c.fresh
-            → IsTrue (may_grow shape.now (scales_of scales.now) c.attribute)) }
-    {
+    ) -> Option<Cut> {
         median_cut(rows, scales, region, turn, shape)
     }
 }
