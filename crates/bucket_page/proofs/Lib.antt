@@ -14,3 +14,4 @@ pub mod Standing
 pub mod Tables
 mod Divided
 mod Shortened
+mod Without

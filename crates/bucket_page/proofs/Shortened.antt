@@ -1,32 +1,21 @@
 -- The page of a bucket without one of its records, made of parts of the bucket's page; and what its table is then.
-use Rattle.std.proofs.Common.{◌≡◌, ◌<◌, ◌≤◌, ◌+◌, ◌-◌, ◌*◌, ℕ, suc, Bool, true, false, not, List, [], ◌∷◌, ◌++◌, map, filter, length, take, drop, get_or, replicate, refl, sym, ap, subst, ◌∙◌, append_assoc, length-append, true≢false, arith}
-use Rattle.std.specs.Prelude.{All}
+use Rattle.std.proofs.Common.{◌≡◌, ◌<◌, ◌≤◌, ◌+◌, ◌-◌, ◌*◌, ℕ, suc, List, ◌∷◌, ◌++◌, length, take, drop, get_or, replicate, refl, sym, ap, ◌∙◌, append_assoc, length-append, arith}
 use Rattle.std.specs.List.{flat_map, remove}
-use Rattle.std.specs.Ordering.{eq_by_cmp}
-use Rattle.std.specs.declared.cmp.Ordering.TheVariants.{Less, Equal, Greater}
-use Rattle.std.proofs.lemmas.List.{take-append-drop, take_at, take_all, drop_more, length-drop, length-take-le, replicate-append-replicate, get_or-take, get_or-drop}
-use Rattle.std.proofs.lemmas.List.Elements.{All-head, All-tail, filter-append}
-use Rattle.std.proofs.lemmas.List.Filters.{length-filter_both}
+use Rattle.std.proofs.lemmas.List.{take-append-drop, take_at, take_all, drop_more, length-drop, length-take-le, replicate-append-replicate}
 use Rattle.std.proofs.lemmas.Grind.{flat_map-append}
 use Rattle.grid_types.specs.declared.update.Record.{Record}
-use Rattle.grid_types.specs.Keys.{key_cmp}
 use Rattle.page_fields.specs.Fields.{bytes_of}
 use Rattle.page_fields.proofs.BytesOf.{length-bytes_of}
 use Rattle.page_fields.proofs.Places.{behind}
 use Rattle.grid_model.specs.Spellings.{BucketOf, record_bytes, bucket_spelling}
 use Rattle.grid_model.specs.Buckets.{IsBucket, SpellsBucket}
-use Rattle.grid_model.specs.Tables.{pairs_of, without}
 use Rattle.bucket_page.specs.Putting.{with_rows}
 use Rattle.bucket_page.specs.Search.{HasRecordAt}
-use Rattle.grid_model.specs.Lone.{record_of}
 use Rattle.bucket_page.specs.Changing.{without_key}
-use Rattle.bucket_page.proofs.Divided.{pairs-filter, part-lawful}
-use Rattle.bucket_page.proofs.Finding.{earlier, found_in_order}
-use Rattle.bucket_page.proofs.Growing.{records_back}
-use Rattle.bucket_page.proofs.Tables.{Ascends, ascends}
 use Rattle.bucket_page.proofs.Pointwise.{by_index}
 use Rattle.bucket_page.proofs.Standing.{length_row}
 use Rattle.bucket_page.proofs.Composed.{in_parts, outer, inner, length-outer, length-inner, front_long, back_long}
+use Rattle.bucket_page.proofs.Without.{rows-without, without-lawful}
 
 seven-in-a-row : (A n I F B Z R : List ℕ) → (((A ++ n) ++ (I ++ F)) ++ (B ++ Z)) ++ R ≡ A ++ (n ++ (I ++ (F ++ (B ++ (Z ++ R)))))
 seven-in-a-row A n I F B Z R = simp append_assoc
@@ -82,60 +71,7 @@ removed K c n at start b d page t0 t1 t2 t3 t4 t5 few whole e count most low is 
     in_parts (with_rows b more) (flat_map record_bytes more) F B (n - 1) (m + 80) refl parts_more count_more (omega (arith, size, size_more, most)) in
     sym (take_all 4096 t5 (omega (arith, long))) ∙ g5 ∙ flattened ∙ ap (λ (ys : List ℕ). A ++ (new ++ (I ++ (F ++ (B ++ ys))))) zeros ∙ sym after
 
--- what all pass is kept whole
-kept : {X : Type 0} (p : X → Bool) (xs : List X) → All (λ x. p x ≡ true) xs → filter p xs ≡ xs
-kept p [] h = refl
-kept p (x ∷ xs) h = by (p x) (All-head (λ y. p y ≡ true) x xs h) refl (kept p xs (All-tail (λ y. p y ≡ true) x xs h))
-  where
-    by : (t : Bool) → p x ≡ true → p x ≡ t → filter p xs ≡ xs → filter p (x ∷ xs) ≡ x ∷ xs
-    by true one e rest = rw e (ap (λ ys. x ∷ ys) rest)
-    by false one e rest = absurd (true≢false (sym one ∙ e))
-
--- whether a key is another one than this
-other_than : List ℕ → List ℕ → Bool
-other_than k x = not (eq_by_cmp key_cmp k x)
-
-passes-below : (k x : List ℕ) → key_cmp k x ≡ Less → other_than k x ≡ true
-unfolding other_than
-passes-below k x e = rw e refl
-
-passes-above : (k x : List ℕ) → key_cmp k x ≡ Greater → other_than k x ≡ true
-unfolding other_than
-passes-above k x e = rw e refl
-
-fails : (k x : List ℕ) → key_cmp k x ≡ Equal → other_than k x ≡ false
-unfolding other_than
-fails k x e = rw e refl
-
--- the records without the one that has the key are those of the other keys
-pub others-left : {K : ℕ} (k : List ℕ) (rows : List (Record K)) (at : ℕ) → Ascends rows → at < length rows → ((d : Record K) → (get_or rows at d).key.numbers ≡ k) → remove rows at ≡ filter (λ r. not (eq_by_cmp key_cmp k r.key.numbers)) rows
-unfolding other_than
-others-left {K} k rows at a lt key =
-    let p : Record K → Bool = λ r. other_than k r.key.numbers in
-    let found = found_in_order k rows at a lt key in
-    let d : Record K = record_of ([], []) in
-    let x : Record K = get_or rows at d in
-    let next : at + 1 ≡ suc at = omega arith in
-    let short : length (take at rows) ≡ at = length-take-le at rows (omega (arith, lt)) in
-    let split : rows ≡ take at rows ++ (x ∷ drop (suc at) rows) = sym (take-append-drop at rows) ∙ ap (λ (ys : List (Record K)). take at rows ++ ys) (drop_more rows at d lt ∙ ap (λ (n : ℕ). x ∷ drop n rows) next) in
-    let front : All (λ r. p r ≡ true) (take at rows) = λ i e l.
-    ap p (get_or-take at rows i e (omega (arith, l, short))) ∙ passes-above k (get_or rows i e).key.numbers (found.below i e (omega (arith, l, short))) in
-    let back : All (λ r. p r ≡ true) (drop (suc at) rows) = λ i e l.
-    let inside : suc at + i < length rows = omega (arith, l, length-drop (suc at) rows) in
-    ap p (get_or-drop (suc at) rows i e)
-    ∙ passes-below k (get_or rows (suc at + i) e).key.numbers (subst (λ (y : List ℕ). key_cmp y (get_or rows (suc at + i) e).key.numbers ≡ Less) (key e) (earlier rows e at (suc at + i) a (omega arith) inside)) in
-    let dropped : filter p (x ∷ drop (suc at) rows) ≡ drop (suc at) rows = first_fails p x (drop (suc at) rows) (fails k x.key.numbers (found.equal d)) ∙ kept p (drop (suc at) rows) back in
-    sym (ap (filter p) split ∙ filter-append p (take at rows) (x ∷ drop (suc at) rows) ∙ ap (λ (ys : List (Record K)). ys ++ filter p (x ∷ drop (suc at) rows)) (kept p (take at rows) front) ∙ ap (λ (ys : List (Record K)). take at rows ++ ys) dropped)
-  where
-    first_fails : (p : Record K → Bool) (x : Record K) (xs : List (Record K)) → p x ≡ false → filter p (x ∷ xs) ≡ filter p xs
-    first_fails p x xs e = rw e refl
-
 -- a lawful bucket without the record that has a key is lawful, and is the bucket without the key
 pub shortened : (K m : ℕ) (b : BucketOf K) (k page : List ℕ) (at : ℕ) → IsBucket m b → page ≡ bucket_spelling (with_rows b (remove b.rows at)) → HasRecordAt b.rows k at → SpellsBucket m page (without_key b k)
 shortened K m b k page at h bytes there =
-    let p : List ℕ → Bool = λ x. not (eq_by_cmp key_cmp k x) in
-    let left = others-left k b.rows at (ascends b.rows h.ascending) there.inside there.key in
-    let same : filter (λ r. p r.key.numbers) b.rows ≡ map record_of (without (pairs_of b.rows) k) = sym (records_back (filter (λ r. p r.key.numbers) b.rows)) ∙ ap (map record_of) (pairs-filter p b.rows) in
-    let few : length (filter (λ r. p r.key.numbers) b.rows) ≤ m = omega (arith, h.count, length-filter_both (λ r. p r.key.numbers) (λ r. not (p r.key.numbers)) (λ r. refl) b.rows) in
-    let lawful = part-lawful m m b b.box b.number p h h.number h.turn h.region (λ x i j. i) few in
-    subst (λ rows. SpellsBucket m page (with_rows b rows)) same (record { lawful = lawful; bytes = bytes ∙ ap (λ rows. bucket_spelling (with_rows b rows)) left })
+    record { lawful = without-lawful m b k h; bytes = bytes ∙ ap (λ rows. bucket_spelling (with_rows b rows)) (rows-without k b.rows at h.ascending there) }

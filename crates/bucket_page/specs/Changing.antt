@@ -1,11 +1,13 @@
 -- A bucket without a record, the parts of a bucket that is cut, and two buckets that are joined.
-use Rattle.std.specs.Prelude.{ℕ, List, map, filter, fold, min, nat_lt, nat_le, slice_index}
+use Rattle.std.specs.Prelude.{ℕ, Bool, List, map, filter, fold, min, nat_lt, nat_le, slice_index}
 use Rattle.grid_types.specs.declared.layout_change.Cut.{Cut}
 use Rattle.grid_types.specs.declared.update.Record.{Record}
 use Rattle.grid_model.specs.Lone.{record_of}
 use Rattle.grid_model.specs.Notes.{left_of, right_of, together}
 use Rattle.grid_model.specs.Tables.{Table, pairs_of, with_data, without}
 use Rattle.grid_model.specs.Spellings.{BucketOf}
+use Rattle.bucket_page.specs.declared.parting.Part.{Part}
+use Rattle.bucket_page.specs.declared.parting.Part.TheVariants.{Left, Right}
 use Rattle.bucket_page.specs.Putting.{with_rows}
 
 -- the bucket without the record of a key
@@ -19,6 +21,15 @@ rows_below rows a v = filter (λ r. nat_lt (slice_index r.key.numbers a) v) rows
 -- the others
 abbrev pub rows_from : {K : ℕ} → List (Record K) → ℕ → ℕ → List (Record K)
 rows_from rows a v = filter (λ r. nat_le v (slice_index r.key.numbers a)) rows
+
+-- whether a number in the attribute of a cut is one of a part: below the boundary on the left, else on the right
+abbrev pub lies_in : Part → ℕ → ℕ → Bool
+lies_in Left n v = nat_lt n v
+lies_in Right n v = nat_le v n
+
+-- the records of a part
+abbrev pub rows_in : {K : ℕ} → Part → List (Record K) → ℕ → ℕ → List (Record K)
+rows_in part rows a v = filter (λ r. lies_in part (slice_index r.key.numbers a) v) rows
 
 -- the left part of a bucket that is cut: it keeps the number, and has the records below the boundary
 abbrev pub left_bucket : {K : ℕ} → BucketOf K → Cut → BucketOf K

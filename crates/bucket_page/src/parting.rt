@@ -7,7 +7,7 @@ ghost use Rattle.grid_model.specs.Tables.{IsTable, pairs_of};
 ghost use Rattle.grid_model.specs.Buckets.{IsBucket};
 ghost use Rattle.bucket_page.specs.declared.bucket.TheConstants.{MOST_IN_MEMORY};
 ghost use Rattle.bucket_page.specs.Buckets.{bucket_of};
-ghost use Rattle.bucket_page.specs.Changing.{rows_below, rows_from, left_bucket, right_bucket, joined_buckets};
+ghost use Rattle.bucket_page.specs.Changing.{lies_in, rows_in, left_bucket, right_bucket, joined_buckets};
 
 use crate::{Bucket, MOST_IN_MEMORY};
 use arrayvec::ArrayVec;
@@ -23,40 +23,40 @@ fn copy<const K: usize>(row: &Record<K>) -> Record<K>
     }
 }
 
-/// The records whose number in the attribute is below the boundary.
-fn below<const K: usize>(
-    rows: &ArrayVec<Record<K>, MOST_IN_MEMORY>,
-    attribute: usize,
-    value: u64,
-) -> ArrayVec<Record<K>, MOST_IN_MEMORY>
-    requires { attribute < K }
-    ensures { result.items ≡ rows_below rows.now.items attribute value }
-{
-    let mut part = ArrayVec::new();
-    for row in rows.as_slice() {
-        if row.key.numbers[attribute] < value {
-            part.push(copy(row));
-        }
-    }
-    part
+/// A part of a bucket that is cut: the records below the boundary, or the others.
+#[derive(Clone, Copy)]
+pub enum Part {
+    Left,
+    Right,
 }
 
-/// The others.
-fn from<const K: usize>(
+/// Whether a number in the attribute of the cut is one of that part.
+fn lies_in(part: Part, number: u64, value: u64) -> bool
+    ensures { result ≡ lies_in part number value }
+{
+    match part {
+        Part::Left => number < value,
+        Part::Right => value <= number,
+    }
+}
+
+/// The records of that part.
+fn rows_in<const K: usize>(
+    part: Part,
     rows: &ArrayVec<Record<K>, MOST_IN_MEMORY>,
     attribute: usize,
     value: u64,
 ) -> ArrayVec<Record<K>, MOST_IN_MEMORY>
     requires { attribute < K }
-    ensures { result.items ≡ rows_from rows.now.items attribute value }
+    ensures { result.items ≡ rows_in part rows.now.items attribute value }
 {
-    let mut part = ArrayVec::new();
+    let mut chosen = ArrayVec::new();
     for row in rows.as_slice() {
-        if value <= row.key.numbers[attribute] {
-            part.push(copy(row));
+        if lies_in(part, row.key.numbers[attribute], value) {
+            chosen.push(copy(row));
         }
     }
-    part
+    chosen
 }
 
 /// The turn of both parts of a bucket that is cut in an attribute: the attribute behind it.
@@ -85,7 +85,7 @@ impl<const K: usize> Bucket<K> {
             number: self.number,
             turn: next_turn::<K>(cut.attribute),
             region,
-            rows: below(&self.rows, cut.attribute as usize, cut.value),
+            rows: rows_in(Part::Left, &self.rows, cut.attribute as usize, cut.value),
         }
     }
 
@@ -104,7 +104,7 @@ impl<const K: usize> Bucket<K> {
             number,
             turn: next_turn::<K>(cut.attribute),
             region,
-            rows: from(&self.rows, cut.attribute as usize, cut.value),
+            rows: rows_in(Part::Right, &self.rows, cut.attribute as usize, cut.value),
         }
     }
 

@@ -1,5 +1,5 @@
-use Rattle.std.proofs.Common.{◌≡◌, ◌<◌, ◌≤◌, ◌+◌, ℕ, List, take, length, get_or, map, min, rules, sym, ap, subst, ◌∙◌, arith}
-use Rattle.std.specs.Prelude.{T, Option, Some, None, MatchOption}
+use Rattle.std.proofs.Common.{◌≡◌, ◌<◌, ◌≤◌, take, length, get_or, map, min, rules, sym, ap, subst, ◌∙◌, arith}
+use Rattle.std.specs.Prelude.{T}
 use Rattle.std.proofs.lemmas.List.Sums.{fold_more}
 use Rattle.std.proofs.lemmas.List.{take_all}
 use Rattle.std.specs.Cmp.Lexicographic.{nat_list_cmp_total}
@@ -11,17 +11,12 @@ use Rattle.grid_model.specs.Lone.{record_of}
 use Rattle.grid_model.specs.Buckets.{IsBucket}
 use Rattle.bucket_page.specs.Buckets.{bucket_of}
 use Rattle.bucket_page.specs.Changing.{with_all}
-use Rattle.bucket_page.proofs.Growing.{records_back}
+use Rattle.bucket_page.proofs.Growing.{records_back, one-more}
 use Rattle.bucket_page.proofs.Divided.{joined-lawful}
 use Rattle.bucket_page.proofs.bucket.Bucket.join.Goals as goal
 
 pub insert-requires : goal.insert-requires
 insert-requires g c = search rules
-
--- at most one record more
-one-more : (o : Option (List ℕ)) (n m : ℕ) → MatchOption o (n ≡ m + 1) (λ _. n ≡ m) → n ≤ m + 1
-one-more None n m h = omega (arith, h)
-one-more (Some d) n m h = omega (arith, h)
 
 pub loop-row-preserved : goal.loop-row-preserved
 loop-row-preserved g c =

@@ -13,5 +13,5 @@ returns-clause-lawful g c = λ most m h few.
     let cut = c.args.cut.now in
     let turn = next-below cut.attribute g.row.K c.requires.attribute in
     let region : IsRegion g.row.K (part_below b.box.region cut.attribute cut.value) = below-region b.box.region cut.attribute cut.value h.region c.requires.attribute c.requires.within in
-    let count : length (left_bucket b cut).rows ≤ most = omega (arith, few, ap length c.below.ensures) in
-    subst (IsBucket most) (sym (λ i. record { number = c.args.self.now.number; box = record { region = c.cut-region.ensures.below i; turn = c.next_turn.ensures i }; rows = c.below.ensures i })) (left-lawful m most b cut h c.requires.attribute c.requires.within turn region count)
+    let count : length (left_bucket b cut).rows ≤ most = omega (arith, few, ap length c.rows_in.ensures) in
+    subst (IsBucket most) (sym (λ i. record { number = c.args.self.now.number; box = record { region = c.cut-region.ensures.below i; turn = c.next_turn.ensures i }; rows = c.rows_in.ensures i })) (left-lawful m most b cut h c.requires.attribute c.requires.within turn region count)

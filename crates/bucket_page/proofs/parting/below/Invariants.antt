@@ -1,9 +1,0 @@
-use Rattle.std.proofs.Common.{◌≡◌, ◌≤◌, take, length}
-use Rattle.bucket_page.specs.Changing.{rows_below}
-use Rattle.bucket_page.proofs.parting.below.Given as goal
-
-abbrev pub invariant-loop-row : goal.invariant-loop-row
-invariant-loop-row g l = record {
-  part : l.part.items ≡ rows_below (take l.row-index l.rows.items) l.attribute l.value;
-  count : length l.part.items ≤ l.row-index;
-}
