@@ -3,30 +3,17 @@ ghost use Rattle.std.specs.Prelude.{◌≡◌, ◌≤◌, ◌&&◌, ◌+◌, ◌
 ghost use Rattle.grid_types.specs.declared.shape.Shape.{Shape};
 ghost use Rattle.grid_types.specs.declared.sizes.TheConstants.{MOST_ATTRIBUTES, MOST_RECORDS};
 ghost use Rattle.grid_types.specs.Regions.{make_a_box};
-ghost use Rattle.grid_model.specs.Buckets.{IsBucket, SpellsBucket};
+ghost use Rattle.grid_model.specs.Buckets.{SpellsBucket};
 ghost use Rattle.grid_model.specs.Layouts.{BucketBox, Layout};
 ghost use Rattle.grid_model.specs.Neighbours.{can_join};
 ghost use Rattle.grid_model.specs.Spellings.{BucketOf};
-ghost use Rattle.grid_model.specs.Tables.{Table, IsTable, pairs_of, without};
-ghost use Rattle.bucket_page.specs.Buckets.{bucket_of};
+ghost use Rattle.grid_model.specs.Tables.{Table, without};
 ghost use Rattle.bucket_page.specs.Changing.{without_key, joined_buckets};
 ghost use Rattle.change_plans.specs.Plans.{OfTwo, may_join, IsPageOf, IsPageBeside, IsMergeRemove};
 
-use bucket_page::{Bucket, decode, encode};
+use bucket_page::{decode, encode};
 use grid_types::{Key, MOST_ATTRIBUTES, MOST_RECORDS, PAGE_BYTES};
 use merge_policy::joinable;
-
-/// Drops the record of a key, if there is one.
-fn drop_key<const K: usize>(bucket: &mut Bucket<K>, key: &Key<K>)
-    requires { IsTable (pairs_of bucket.old.rows.items) }
-    ensures bucket { bucket_of bucket.new ≡ without_key (bucket_of bucket.old) key.now.numbers }
-    ensures lawful { (c : ℕ) → IsBucket c (bucket_of bucket.old)
-        → IsBucket c (bucket_of bucket.new) }
-{
-    if let Some(at) = bucket.find(key) {
-        let _dropped = bucket.rows.remove(at);
-    }
-}
 
 /// Joins the bucket of `from`, without that key, with the bucket of `other`, where their regions are a box and both hold few
 /// enough records: makes `to` the page of the two under the lower number, which is the answer.
@@ -64,7 +51,7 @@ pub fn join_of<const K: usize>(
     let Some(beside) = decode::<K>(other, capacity) else {
         return None;
     };
-    drop_key(&mut bucket, key);
+    bucket.remove(key);
     let rows = (bucket.rows.len() + beside.rows.len()) as u32;
     if !joinable(&bucket.region, &beside.region, rows, capacity) {
         return None;

@@ -45,6 +45,14 @@ fn first_page() -> [u8; PAGE_BYTES] {
     page
 }
 
+/// The page of the bucket of a new file with the records of two keys, which fill it.
+fn full_page(first: [u64; 2], second: [u64; 2]) -> [u8; PAGE_BYTES] {
+    let mut page = first_page();
+    is_put(&mut page, first);
+    is_put(&mut page, second);
+    page
+}
+
 /// How many records a page has, or 9 where it spells no bucket of two attributes.
 fn count_on(page: &[u8; PAGE_BYTES]) -> usize {
     match judge::<2>(page, 2) {
@@ -81,6 +89,39 @@ fn is_taken(page: &mut [u8; PAGE_BYTES], numbers: [u64; 2]) -> bool {
     true
 }
 
+/// Where a bucket was cut, and the pages of its parts.
+#[derive(Drop)]
+struct Parts {
+    cut: Option<Cut>,
+    left: [u8; PAGE_BYTES],
+    right: [u8; PAGE_BYTES],
+}
+
+impl Parts {
+    /// How many records each part has.
+    fn counts(&self) -> [usize; 2] {
+        [count_on(&self.left), count_on(&self.right)]
+    }
+}
+
+/// The bucket of a page cut by the rule of the median with the record of a key, where a scale has at most so many boundaries.
+fn cut_with(
+    from: &[u8; PAGE_BYTES],
+    numbers: [u64; 2],
+    scales: &Scales<2>,
+    boundaries: u32,
+    unused: u32,
+) -> Parts {
+    let shape = shape_of(boundaries);
+    let row = row_of(numbers);
+    let mut left = [0; PAGE_BYTES];
+    let mut right = [0; PAGE_BYTES];
+    let cut = cut_of(
+        &Median, from, &row, scales, &shape, unused, &mut left, &mut right,
+    );
+    Parts { cut, left, right }
+}
+
 fn cut_at(attribute: u8, value: u64, fresh: bool) -> Option<Cut> {
     Some(Cut {
         attribute,
@@ -91,128 +132,61 @@ fn cut_at(attribute: u8, value: u64, fresh: bool) -> Option<Cut> {
 
 #[test]
 fn full_buckets_are_cut(rt: HostRuntime) -> Result<(), Fail> {
-    let shape = shape_of(1000);
     let mut scales = Scales::new(rt.alloc(), 1000)?;
-    let mut left = first_page();
-    let mut right = [0; PAGE_BYTES];
-    let mut next = [0; PAGE_BYTES];
-    assert!(rt; is_put(&mut left, [3, 7]));
-    assert!(rt; is_put(&mut left, [5, 1]));
-    assert!(rt; !is_put(&mut left, [9, 9]));
-    let cut = cut_of(
-        &Median,
-        &left,
-        &row_of([9, 9]),
-        &scales,
-        &shape,
-        1,
-        &mut next,
-        &mut right,
-    );
-    assert_eq!(rt; cut, cut_at(0, 5, true));
-    left.copy_from_slice(&next);
-    assert_eq!(rt; count_on(&left), 1);
-    assert_eq!(rt; count_on(&right), 2);
+    let mut page = full_page([3, 7], [5, 1]);
+    assert!(rt; !is_put(&mut page, [9, 9]));
+    let mut first = cut_with(&page, [9, 9], &scales, 1000, 1);
+    assert_eq!(rt; first.cut, cut_at(0, 5, true));
+    assert_eq!(rt; first.counts(), [1, 2]);
     assert_eq!(rt; scales.refine(0, 5), Ok(()));
-    assert!(rt; !is_put(&mut right, [6, 4]));
-    let mut third = [0; PAGE_BYTES];
-    let cut = cut_of(
-        &Median,
-        &right,
-        &row_of([6, 4]),
-        &scales,
-        &shape,
-        2,
-        &mut next,
-        &mut third,
-    );
-    assert_eq!(rt; cut, cut_at(1, 4, true));
-    assert_eq!(rt; count_on(&next), 1);
-    assert_eq!(rt; count_on(&third), 2);
+    assert!(rt; !is_put(&mut first.right, [6, 4]));
+    let second = cut_with(&first.right, [6, 4], &scales, 1000, 2);
+    assert_eq!(rt; second.cut, cut_at(1, 4, true));
+    assert_eq!(rt; second.counts(), [1, 2]);
     assert_eq!(rt; scales.refine(1, 4), Ok(()));
-    assert!(rt; is_put(&mut left, [1, 1]));
-    assert!(rt; !is_put(&mut left, [2, 9]));
-    let cut = cut_of(
-        &Median,
-        &left,
-        &row_of([2, 9]),
-        &scales,
-        &shape,
-        3,
-        &mut next,
-        &mut third,
-    );
-    assert_eq!(rt; cut, cut_at(1, 4, false));
-    assert_eq!(rt; count_on(&next), 1);
-    assert_eq!(rt; count_on(&third), 2);
+    assert!(rt; is_put(&mut first.left, [1, 1]));
+    assert!(rt; !is_put(&mut first.left, [2, 9]));
+    let third = cut_with(&first.left, [2, 9], &scales, 1000, 3);
+    assert_eq!(rt; third.cut, cut_at(1, 4, false));
+    assert_eq!(rt; third.counts(), [1, 2]);
     Ok(())
 }
 
 #[test]
 fn cuts_go_to_the_top_or_there_are_none(rt: HostRuntime) -> Result<(), Fail> {
     let mut scales = Scales::new(rt.alloc(), 1000)?;
-    let mut page = first_page();
-    let mut left = [0; PAGE_BYTES];
-    let mut right = [0; PAGE_BYTES];
-    assert!(rt; is_put(&mut page, [0, 0]));
-    assert!(rt; is_put(&mut page, [TOP, TOP]));
-    let row = row_of([0, 1]);
-    let cut = cut_of(
-        &Median,
-        &page,
-        &row,
-        &scales,
-        &shape_of(1000),
-        1,
-        &mut left,
-        &mut right,
+    let page = full_page([0, 0], [TOP, TOP]);
+    assert_eq!(rt;
+        cut_with(&page, [0, 1], &scales, 1000, 1).cut,
+        cut_at(0, TOP, true)
     );
-    assert_eq!(rt; cut, cut_at(0, TOP, true));
-    let narrow = shape_of(1);
-    let mut page = first_page();
-    assert!(rt; is_put(&mut page, [1, 1]));
-    assert!(rt; is_put(&mut page, [1, 2]));
-    let row = row_of([1, 3]);
-    let cut = cut_of(
-        &Median, &page, &row, &scales, &narrow, 1, &mut left, &mut right,
-    );
-    assert_eq!(rt; cut, cut_at(1, 2, true));
+    let page = full_page([1, 1], [1, 2]);
+    let mut parts = cut_with(&page, [1, 3], &scales, 1, 1);
+    assert_eq!(rt; parts.cut, cut_at(1, 2, true));
     assert_eq!(rt; scales.refine(1, 2), Ok(()));
-    assert!(rt; !is_put(&mut right, [1, 4]));
-    let row = row_of([1, 4]);
-    let cut = cut_of(
-        &Median, &right, &row, &scales, &narrow, 2, &mut page, &mut left,
-    );
-    assert_eq!(rt; cut, None);
+    assert!(rt; !is_put(&mut parts.right, [1, 4]));
+    assert_eq!(rt; cut_with(&parts.right, [1, 4], &scales, 1, 2).cut, None);
     Ok(())
 }
 
 #[test]
 fn buckets_with_few_records_are_joined(rt: HostRuntime) -> Result<(), Fail> {
     let scales = Scales::new(rt.alloc(), 1000)?;
-    let mut page = first_page();
-    let mut left = [0; PAGE_BYTES];
-    let mut right = [0; PAGE_BYTES];
-    assert!(rt; is_put(&mut page, [3, 7]));
-    assert!(rt; is_put(&mut page, [5, 1]));
-    let row = row_of([9, 9]);
-    let cut = cut_of(
-        &Median,
-        &page,
-        &row,
-        &scales,
-        &shape_of(1000),
-        1,
-        &mut left,
-        &mut right,
-    );
-    assert_eq!(rt; cut, cut_at(0, 5, true));
+    let mut page = full_page([3, 7], [5, 1]);
+    let mut parts = cut_with(&page, [9, 9], &scales, 1000, 1);
+    assert_eq!(rt; parts.cut, cut_at(0, 5, true));
     let key = Key { numbers: [3, 7] };
-    assert_eq!(rt; join_of(&left, &key, &right, 2, &mut page), None);
-    assert!(rt; is_taken(&mut left, [3, 7]));
-    assert!(rt; !is_taken(&mut left, [3, 7]));
+    assert_eq!(rt;
+        join_of(&parts.left, &key, &parts.right, 2, &mut page),
+        None
+    );
+    assert!(rt; is_taken(&mut parts.left, [3, 7]));
+    assert!(rt; !is_taken(&mut parts.left, [3, 7]));
     let key = Key { numbers: [9, 9] };
-    assert_eq!(rt; join_of(&right, &key, &left, 2, &mut page), Some(0));
+    assert_eq!(rt;
+        join_of(&parts.right, &key, &parts.left, 2, &mut page),
+        Some(0)
+    );
     assert_eq!(rt; count_on(&page), 1);
     let left_over = get_on(&page, 1, &Key { numbers: [5, 1] });
     assert!(rt; left_over.is_some());

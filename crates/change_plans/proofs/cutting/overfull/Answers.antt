@@ -2,7 +2,8 @@ use Rattle.std.proofs.Common.{◌≡◌, ◌+◌, ◌∙◌, true, length, sym, 
 use Rattle.grid_types.specs.Regions.{contains}
 use Rattle.bucket_page.specs.Buckets.{bucket_of}
 use Rattle.bucket_page.specs.Putting.{with_record}
-use Rattle.change_plans.proofs.InMemory.{in_memory, put-in-memory, one-longer}
+use Rattle.bucket_page.proofs.Growing.{one-more}
+use Rattle.change_plans.proofs.InMemory.{in_memory, put-in-memory}
 use Rattle.change_plans.proofs.Overfull.{roomier}
 use Rattle.change_plans.proofs.cutting.overfull.Goals as goal
 
@@ -24,5 +25,5 @@ returns-clause-there g c = λ b s inside.
 pub returns-clause-lawful : goal.returns-clause-lawful
 returns-clause-lawful g c =
     let found = c.in-Some.ensures.found in
-    let longer = one-longer _ (length c.insert.new.self.rows.items) (length c.in-Some.bucket.rows.items) c.insert.ensures.len in
+    let longer = one-more _ (length c.insert.new.self.rows.items) (length c.in-Some.bucket.rows.items) c.insert.ensures.len in
     c.insert.ensures.lawful (c.args.capacity + 1) (roomier c.args.capacity (c.args.capacity + 1) (bucket_of c.in-Some.bucket) found.lawful (omega arith)) (omega (arith, longer, found.lawful.count)) (c.contains.ensures.within.0 c.if-not-contains.false)

@@ -28,11 +28,11 @@ returns-in_default-decode-clause-joins g c = λ shape L t e f n h r same.
 pub returns-then-not-joinable-clause-exactly : goal.returns-then-not-joinable-clause-exactly
 returns-then-not-joinable-clause-exactly g c = λ b d s r.
     let k = c.args.key.now.numbers in
-    let left = c.drop_key.ensures.bucket ∙ ap (λ x. without_key (bucket_of x) k) (c.in-Some.ensures.only (in_memory b) s) in
+    let left = c.remove.ensures.without ∙ ap (λ x. without_key (bucket_of x) k) (c.in-Some.ensures.only (in_memory b) s) in
     let right = ap bucket_of (c.in-Some-decode.ensures.only (in_memory d) r) in
     sym c.if-not-joinable.true
     ∙ c.joinable.ensures
-    ∙ joinable-is c.args.capacity _ (bucket_of c.drop_key.new.bucket) (bucket_of c.in-Some-decode.beside) (without_key b k) d (λ i. c.len.ensures.value i + c.len-2.ensures.value i) left right
+    ∙ joinable-is c.args.capacity _ (bucket_of c.remove.new.self) (bucket_of c.in-Some-decode.beside) (without_key b k) d (λ i. c.len.ensures.value i + c.len-2.ensures.value i) left right
 
 pub returns-then-not-joinable-clause-joins : goal.returns-then-not-joinable-clause-joins
 returns-then-not-joinable-clause-joins g c = λ shape L t e f n h r same.
@@ -46,36 +46,36 @@ returns-then-not-joinable-clause-joins g c = λ shape L t e f n h r same.
 pub encode-requires : goal.encode-requires
 encode-requires g c =
     let made = c.join.ensures.joined c.in-Some-joins.ensures.joined in
-    let few : length c.join.new.self.rows.items ≤ c.args.capacity = joined-fits c.args.capacity _ (bucket_of c.drop_key.new.bucket) (bucket_of c.in-Some-decode.beside) (bucket_of c.join.new.self) (λ i. c.len.ensures.value i + c.len-2.ensures.value i) (sym c.joinable.ensures ∙ c.if-not-joinable.false) made in
+    let few : length c.join.new.self.rows.items ≤ c.args.capacity = joined-fits c.args.capacity _ (bucket_of c.remove.new.self) (bucket_of c.in-Some-decode.beside) (bucket_of c.join.new.self) (λ i. c.len.ensures.value i + c.len-2.ensures.value i) (sym c.joinable.ensures ∙ c.if-not-joinable.false) made in
     (search rules, (c.requires.few, (c.requires.lawful, few)))
 
 pub returns-clause-exactly : goal.returns-clause-exactly
 returns-clause-exactly g c = λ b d s r.
     let k = c.args.key.now.numbers in
-    let left = c.drop_key.ensures.bucket ∙ ap (λ x. without_key (bucket_of x) k) (c.in-Some.ensures.only (in_memory b) s) in
+    let left = c.remove.ensures.without ∙ ap (λ x. without_key (bucket_of x) k) (c.in-Some.ensures.only (in_memory b) s) in
     let right = ap bucket_of (c.in-Some-decode.ensures.only (in_memory d) r) in
     sym c.if-not-joinable.false
     ∙ c.joinable.ensures
-    ∙ joinable-is c.args.capacity _ (bucket_of c.drop_key.new.bucket) (bucket_of c.in-Some-decode.beside) (without_key b k) d (λ i. c.len.ensures.value i + c.len-2.ensures.value i) left right
+    ∙ joinable-is c.args.capacity _ (bucket_of c.remove.new.self) (bucket_of c.in-Some-decode.beside) (without_key b k) d (λ i. c.len.ensures.value i + c.len-2.ensures.value i) left right
 
 pub returns-clause-spelled : goal.returns-clause-spelled
 returns-clause-spelled g c = λ b d s r.
     let k = c.args.key.now.numbers in
-    let left = c.drop_key.ensures.bucket ∙ ap (λ x. without_key (bucket_of x) k) (c.in-Some.ensures.only (in_memory b) s) in
+    let left = c.remove.ensures.without ∙ ap (λ x. without_key (bucket_of x) k) (c.in-Some.ensures.only (in_memory b) s) in
     let right = ap bucket_of (c.in-Some-decode.ensures.only (in_memory d) r) in
-    let x = bucket_of c.drop_key.new.bucket in
+    let x = bucket_of c.remove.new.self in
     let y = bucket_of c.in-Some-decode.beside in
     let may = sym c.joinable.ensures ∙ c.if-not-joinable.false in
     let make = first (make_a_box x.box.region y.box.region) _ may in
     let made = c.join.ensures.joined c.in-Some-joins.ensures.joined in
     let few : length c.join.new.self.rows.items ≤ c.args.capacity = joined-fits c.args.capacity _ x y (bucket_of c.join.new.self) (λ i. c.len.ensures.value i + c.len-2.ensures.value i) may made in
-    let whole = c.join.ensures.lawful c.args.capacity c.args.capacity c.args.capacity c.in-Some-joins.ensures.joined make (c.drop_key.ensures.lawful c.args.capacity c.in-Some.ensures.found.lawful) c.in-Some-decode.ensures.found.lawful few in
+    let whole = c.join.ensures.lawful c.args.capacity c.args.capacity c.args.capacity c.in-Some-joins.ensures.joined make (c.remove.ensures.lawful c.args.capacity c.in-Some.ensures.found.lawful) c.in-Some-decode.ensures.found.lawful few in
     subst (SpellsBucket c.args.capacity c.encode.new.page) (made ∙ (λ i. joined_buckets (left i) (right i))) (c.encode.ensures.spelled whole)
 
 pub returns-clause-number : goal.returns-clause-number
 returns-clause-number g c = λ b d s r.
     let k = c.args.key.now.numbers in
-    let left = c.drop_key.ensures.bucket ∙ ap (λ x. without_key (bucket_of x) k) (c.in-Some.ensures.only (in_memory b) s) in
+    let left = c.remove.ensures.without ∙ ap (λ x. without_key (bucket_of x) k) (c.in-Some.ensures.only (in_memory b) s) in
     let right = ap bucket_of (c.in-Some-decode.ensures.only (in_memory d) r) in
     ap (λ (x : BucketOf g.row.K). x.number) (c.join.ensures.joined c.in-Some-joins.ensures.joined ∙ (λ i. joined_buckets (left i) (right i)))
 
