@@ -14,14 +14,6 @@ use Rattle.bucket_page.specs.Putting.{with_rows}
 abbrev pub without_key : {K : ℕ} → BucketOf K → List ℕ → BucketOf K
 without_key b k = with_rows b (map record_of (without (pairs_of b.rows) k))
 
--- the records whose number in an attribute is below a boundary
-abbrev pub rows_below : {K : ℕ} → List (Record K) → ℕ → ℕ → List (Record K)
-rows_below rows a v = filter (λ r. nat_lt (slice_index r.key.numbers a) v) rows
-
--- the others
-abbrev pub rows_from : {K : ℕ} → List (Record K) → ℕ → ℕ → List (Record K)
-rows_from rows a v = filter (λ r. nat_le v (slice_index r.key.numbers a)) rows
-
 -- whether a number in the attribute of a cut is one of a part: below the boundary on the left, else on the right
 abbrev pub lies_in : Part → ℕ → ℕ → Bool
 lies_in Left n v = nat_lt n v
@@ -33,11 +25,11 @@ rows_in part rows a v = filter (λ r. lies_in part (slice_index r.key.numbers a)
 
 -- the left part of a bucket that is cut: it keeps the number, and has the records below the boundary
 abbrev pub left_bucket : {K : ℕ} → BucketOf K → Cut → BucketOf K
-left_bucket b c = record { number = b.number; box = left_of b.box c; rows = rows_below b.rows c.attribute c.value }
+left_bucket b c = record { number = b.number; box = left_of b.box c; rows = rows_in Left b.rows c.attribute c.value }
 
 -- the right part: it gets a number of its own, and has the other records
 abbrev pub right_bucket : {K : ℕ} → BucketOf K → Cut → ℕ → BucketOf K
-right_bucket b c right = record { number = right; box = right_of b.box c; rows = rows_from b.rows c.attribute c.value }
+right_bucket b c right = record { number = right; box = right_of b.box c; rows = rows_in Right b.rows c.attribute c.value }
 
 -- a table with these records put into it
 abbrev pub with_all : {K : ℕ} → Table → List (Record K) → Table

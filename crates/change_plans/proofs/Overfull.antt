@@ -1,5 +1,5 @@
 -- A bucket with one record too many: its keys, and how many records its parts have.
-use Rattle.std.proofs.Common.{◌≡◌, ◌<◌, ◌≤◌, ◌+◌, ℕ, Bool, true, false, cond, not, List, [], ◌∷◌, map, filter, length, slice_index, nat_lt, nat_le, IsTrue, refl, sym, ap, ◌∙◌, arith, ltb-true}
+use Rattle.std.proofs.Common.{◌≡◌, ◌<◌, ◌≤◌, ◌+◌, ℕ, Bool, true, false, cond, not, List, [], ◌∷◌, map, filter, length, slice_index, nat_lt, nat_le, IsTrue, refl, ap, ◌∙◌, arith, ltb-true}
 use Rattle.std.proofs.lemmas.Bool.{lt-leb, le-leb, ltb-false}
 use Rattle.std.proofs.lemmas.List.{length-map}
 use Rattle.std.proofs.lemmas.List.Filters.{length-filter_both}
@@ -9,18 +9,14 @@ use Rattle.grid_model.specs.Buckets.{IsBucket}
 use Rattle.grid_model.specs.Cuts.{divides, left_part, right_part}
 use Rattle.grid_model.specs.Lone.{record_of}
 use Rattle.grid_model.specs.Spellings.{BucketOf}
-use Rattle.grid_model.specs.Tables.{Table, pairs_of}
+use Rattle.grid_model.specs.Tables.{Table}
 use Rattle.split_policy.specs.Rows.{keys_of}
-use Rattle.bucket_page.specs.Changing.{rows_below, rows_from}
-use Rattle.bucket_page.proofs.Growing.{records_back}
+use Rattle.bucket_page.specs.declared.parting.Part.TheVariants.{Left, Right}
+use Rattle.bucket_page.specs.Changing.{rows_in}
 
 -- a bucket that is lawful is so at each higher capacity
 pub roomier : {K : ℕ} (c d : ℕ) (b : BucketOf K) → IsBucket c b → c ≤ d → IsBucket d b
 roomier c d b h le = record { number = h.number; turn = h.turn; region = h.region; count = omega (arith, h.count, le); ascending = h.ascending; keys = h.keys; inside = h.inside; values = h.values }
-
--- records whose pairs are those of a table are the table's
-pub rows-of-pairs : {K : ℕ} (rows : List (Record K)) (t : Table) → pairs_of rows ≡ t → rows ≡ map record_of t
-rows-of-pairs rows t e = sym (records_back rows) ∙ ap (map record_of) e
 
 -- the keys of the records of a table are the table's
 pub keys-of-records : (K : ℕ) (t : Table) → keys_of (map (record_of {K = K}) t) ≡ map (λ e. e.0) t
@@ -49,18 +45,18 @@ other-side v x = by (nat_lt x v) refl
     by false e = le-leb v x (ltb-false x v e)
 
 module _ {K : ℕ} (rows : List (Record K)) (a v capacity : ℕ) (divided : IsTrue (divides (keys_of rows) a v)) (few : length rows ≤ capacity + 1) where
-  some-left : 0 < length (rows_below rows a v)
+  some-left : 0 < length (rows_in Left rows a v)
   some-left = let same = count-passing (λ k. nat_lt (slice_index k a) v) rows in let some = ltb-true 0 (length (left_part (keys_of rows) a v)) (first (nat_lt 0 (length (left_part (keys_of rows) a v))) (nat_lt 0 (length (right_part (keys_of rows) a v))) divided) in omega (arith, same, some)
 
-  some-right : 0 < length (rows_from rows a v)
+  some-right : 0 < length (rows_in Right rows a v)
   some-right = let same = count-passing (λ k. nat_le v (slice_index k a)) rows in let some = ltb-true 0 (length (right_part (keys_of rows) a v)) (second (nat_lt 0 (length (left_part (keys_of rows) a v))) (nat_lt 0 (length (right_part (keys_of rows) a v))) divided) in omega (arith, same, some)
 
-  both-parts : length (rows_below rows a v) + length (rows_from rows a v) ≡ length rows
+  both-parts : length (rows_in Left rows a v) + length (rows_in Right rows a v) ≡ length rows
   both-parts = length-filter_both (λ (r : Record K). nat_lt (slice_index r.key.numbers a) v) (λ (r : Record K). nat_le v (slice_index r.key.numbers a)) (λ r. other-side v (slice_index r.key.numbers a)) rows
 
   -- of records that are one too many and that are divided each part has room
-  pub left-fits : length (rows_below rows a v) ≤ capacity
+  pub left-fits : length (rows_in Left rows a v) ≤ capacity
   left-fits = let some = some-right in let all = both-parts in omega (arith, some, all, few)
 
-  pub right-fits : length (rows_from rows a v) ≤ capacity
+  pub right-fits : length (rows_in Right rows a v) ≤ capacity
   right-fits = let some = some-left in let all = both-parts in omega (arith, some, all, few)
