@@ -1,7 +1,7 @@
 -- Which pages of the journal are different ones.
-use Rattle.std.proofs.Common.{◌≡◌, ◌≢◌, ◌<◌, ◌⊎◌, inl, inr, ℕ, ap}
+use Rattle.std.proofs.Common.{◌≢◌, ◌<◌, ◌⊎◌, inl, inr, ℕ, ap}
 use Rattle.grid_types.specs.declared.shape.Shape.{Shape}
-use Rattle.grid_types.specs.FilePages.{FilePage, GatePage, SlotPage}
+use Rattle.grid_types.specs.FilePages.{GatePage, SlotPage}
 use Rattle.grid_types.specs.Shapes.{gate_page, slot_page}
 use Rattle.grid_types.proofs.PageNumbers.{pages-differ, place-of, side-of}
 

@@ -10,7 +10,7 @@ use Rattle.grid_types.specs.Shapes.{is_shape, slot_page, slot_gate_at}
 use Rattle.grid_types.specs.Shapes as places
 use Rattle.grid_types.proofs.Places.{within-limits, slot-page-lies}
 use Rattle.disk_trait.specs.Disk.{Agrees, Holds}
-use Rattle.disk_trait.specs.Moments.{IsOutside, AgreesOutside}
+use Rattle.disk_trait.specs.Moments.{AgreesOutside}
 use Rattle.disk_trait.proofs.Pages.{page_apart, byte_apart, byte_of_page, part_written, pages_lie_apart, byte_off_range}
 use Rattle.disk_trait.proofs.Ranges.{SamePage, PageIsOutside, page_outside}
 use Rattle.page_fields.specs.Padded.{padded}

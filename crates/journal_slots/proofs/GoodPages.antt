@@ -29,7 +29,7 @@ open_front gates half n (suc m) =
     let next : n + suc m ≡ n + m + 1 = omega arith in
     (had.0 ++ one, ap (open_below gates half) next ∙ open_split gates half (n + m) ∙ ap (λ (xs : List (ℕ × ℕ)). xs ++ one) had.1 ∙ append_assoc (open_below gates half n) had.0 one)
 
-front_get : {X : Type 0} (xs ys : List X) (i : ℕ) → i < length xs → slice_get (xs ++ ys) i ≡ slice_get xs i
+pub front_get : {X : Type 0} (xs ys : List X) (i : ℕ) → i < length xs → slice_get (xs ++ ys) i ≡ slice_get xs i
 front_get [] ys i lt = absurd (omega (arith, lt))
 front_get (x ∷ xs) ys zero lt = refl
 front_get (x ∷ xs) ys (suc i) lt = front_get xs ys i (omega (arith, lt))

@@ -10,3 +10,5 @@ pub mod LastGates
 pub mod GoodPages
 pub mod DifferentPages
 pub mod Frames
+pub mod LawfulBatches
+pub mod GoodHalves

@@ -1,11 +1,12 @@
 -- What a scan of a half of the journal finds.
-use Rattle.std.specs.Prelude.{◌≡◌, ◌⊎◌, ◌<◌, ◌++◌, ◌∷◌, [], ℕ, zero, suc, List, length, slice_get, slice_index, Some, ⊤}
+use Rattle.std.specs.Prelude.{◌≡◌, ◌⊎◌, ◌<◌, ◌≤◌, ◌+◌, ◌++◌, ◌∷◌, [], ℕ, zero, suc, List, length, slice_get, slice_index, Some, All, ⊤}
 use Rattle.grid_types.specs.declared.shape.Shape.{Shape}
 use Rattle.grid_types.specs.declared.refusal.Refusal.{Refusal}
 use Rattle.grid_types.specs.declared.refusal.Refusal.TheVariants as refusal
 use Rattle.grid_types.specs.Pages.{page_of}
 use Rattle.grid_types.specs.Shapes as places
 use Rattle.grid_model.specs.Spellings.{LoggedBatch}
+use Rattle.grid_model.specs.Lawful.{IsBatch}
 use Rattle.grid_model.specs.Images.{HasGatesOf, SpellsBatch, open_slots_of, HasBatches, of_session, last_gate}
 use Rattle.journal_slots.specs.declared.scan.Scan.{Scan}
 
@@ -96,3 +97,22 @@ pub record WantsMemory (K : ℕ) (s : Shape) (image : List ℕ) (half session : 
   pub gates : List ℕ
   pub spelled : HasGatesOf s image half gates
   pub kept : IsToKeep K s image half gates session
+
+-- a batch is lawful, so that it has a spelling, and is of a session
+pub record IsLawfulOf {K : ℕ} (session : ℕ) (b : LoggedBatch K) : Type 0 where
+  pub lawful : IsBatch b
+  pub of : b.session ≡ session
+
+-- each batch of a list is lawful and of a session
+abbrev pub AreLawfulOf : {K : ℕ} → ℕ → List (LoggedBatch K) → Type 0
+AreLawfulOf session batches = All (IsLawfulOf session) batches
+
+-- what a scan gives is lawful, also of a disk that does not tell its content: no more slots are in use than there are, and each batch is lawful and of the session
+pub record IsLawfulScan {K : ℕ} (s : Shape) (session : ℕ) (scan : Scan K) : Type 0 where
+  pub few : scan.used ≤ s.slots
+  pub batches : AreLawfulOf session scan.batches
+
+-- between these counts a half was read: its gate page, and at most a page for each slot
+pub record ReadsHalf (s : Shape) (before now : ℕ) : Type 0 where
+  pub least : before + 1 ≤ now
+  pub most : now ≤ before + 1 + s.slots

@@ -8,7 +8,7 @@ ghost use Rattle.grid_types.specs.Shapes.{file_pages};
 ghost use Rattle.disk_trait.specs.Calls.{OnlyReads, HasCauses};
 ghost use Rattle.grid_model.specs.Images.{HasGatesOf, open_slots_of};
 ghost use Rattle.journal_slots.specs.declared.scan.Scan.{Scan};
-ghost use Rattle.journal_slots.specs.Scans.{AreBatchesOn, IsScan, SpellsSome, IsFirstBadSlot, IsFirstBadPage, AreFirstGood, IsGoodUpTo, IsRefusalOfScan, IsMore, SpellsOf, IsToKeep, WantsMemory};
+ghost use Rattle.journal_slots.specs.Scans.{AreBatchesOn, IsScan, SpellsSome, IsFirstBadSlot, IsFirstBadPage, AreFirstGood, IsGoodUpTo, IsRefusalOfScan, IsMore, SpellsOf, IsToKeep, WantsMemory, AreLawfulOf, IsLawfulScan, ReadsHalf};
 
 use crate::gates::{is_gate_page, is_open, slots_in_use};
 use crate::{Batches, Scan, decode};
@@ -36,6 +36,7 @@ fn scan_slot<const K: usize, D: Disk, L: Ledger>(
     ensures no_memory { IsTrue (D.honest disk.old)
         → IsErrOf result NoMemory
         → SpellsOf K (page_of page (D.seen disk.old)) session }
+    ensures lawful { AreLawfulOf session found.old → AreLawfulOf session found.new }
     ensures causes { HasCauses D.Disk IsRefusalOfScan disk.old disk.new result }
     ensures ticks { steps.new ≡ steps.old + 1 }
     ensures same { OnlyReads D.Disk disk.old disk.new }
@@ -80,6 +81,7 @@ fn scan_slots<const K: usize, D: Disk, L: Ledger>(
         → steps.new ≡ steps.old + n + 1
         → OnErr result (AreFirstGood K geometry.now.shape (D.seen disk.old) (half_number half)
         gates.now n) }
+    ensures lawful { OnOk result (AreLawfulOf session found.new) }
     ensures causes { HasCauses D.Disk IsRefusalOfScan disk.old disk.new result }
     ensures ticks { steps.old ≤ steps.new }
     ensures all { OnOk result
@@ -107,7 +109,8 @@ fn slots_of(geometry: &Geometry) -> u32
 
 /// The batches of a session in a half of the journal: those on the slots whose gates are open, in order; and how many slots
 /// are in use. An open gate is 1. A page that spells nothing where it has to is named; the first such page ends the scan.
-/// Where the scan is refused, the pages that it read before the last one were good.
+/// Where the scan is refused, the pages that it read before the last one were good. What it gives is lawful, whatever the
+/// disk tells.
 pub fn scan_half<const K: usize, D: Disk, L: Ledger>(
     alloc: Global,
     disk: &mut D,
@@ -136,9 +139,9 @@ pub fn scan_half<const K: usize, D: Disk, L: Ledger>(
         → steps.new ≡ steps.old + n + 1
         → OnErr result
         (IsGoodUpTo K geometry.now.shape (D.seen disk.old) (half_number half) n) }
+    ensures lawful { IfOk result (IsLawfulScan geometry.now.shape session) }
     ensures causes { HasCauses D.Disk IsRefusalOfScan disk.old disk.new result }
-    ensures least { steps.old + 1 ≤ steps.new }
-    ensures most { steps.new ≤ steps.old + 1 + geometry.now.shape.slots }
+    ensures reads { ReadsHalf geometry.now.shape steps.old steps.new }
     ensures ticks { IsTrue (D.honest disk.old)
         → OnOk result ((gates : List ℕ)
         → HasGatesOf geometry.now.shape (D.seen disk.old) (half_number half) gates

@@ -8,6 +8,7 @@ use Rattle.journal_slots.specs.Scans.{AreBatchesOn, SpellsSome, SpellsOf}
 use Rattle.journal_slots.proofs.OpenSlots.{open_count, open_same, open_few, found_more, before_more, before_same}
 use Rattle.journal_slots.proofs.GoodPages.{passed_good}
 use Rattle.journal_slots.proofs.Refused.{same_refusal, where_refused}
+use Rattle.journal_slots.proofs.LawfulBatches.{lawful_none}
 use Rattle.journal_slots.proofs.scanning.scan_slots.Goals as goal
 
 pub loop-slot-preserved-then-not-is_open : goal.loop-slot-preserved-then-not-is_open
@@ -20,6 +21,7 @@ loop-slot-preserved-then-not-is_open g c =
       steps = omega (arith, was.steps, ap length same);
       found = λ h. subst (λ (slots : List (ℕ × ℕ)). AreBatchesOn c.args.geometry.now.shape (g.D.Disk.seen c.args.disk.now) slots c.args.session c.loop-slot.found) (sym same) (was.found h);
       before = λ h. before_same c.args.geometry.now.shape (g.D.Disk.seen c.args.disk.now) c.args.session c.args.gates.now (half_number c.args.half) c.loop-slot.slot closed (was.before h);
+      lawful = was.lawful;
     }
 
 pub loop-slot-preserved : goal.loop-slot-preserved
@@ -36,6 +38,7 @@ loop-slot-preserved g c =
           (now.found (was.same.honest ∙ h)) (was.found h);
       before = λ h. before_more s image c.args.session c.args.gates.now (half_number c.args.half) c.loop-slot.slot c.slot_page-page.result (g.D.Disk.seen c.loop-slot.disk) c.loop-slot.found c.scan_slot.new.found (was.same.seen h) c.slot_page-page.ensures.value
           (now.found (was.same.honest ∙ h)) (was.before h);
+      lawful = λ all. now.lawful (was.lawful all);
     }
 
 pub returns-in_err-scan_slot-clause-damaged : goal.returns-in_err-scan_slot-clause-damaged
@@ -75,3 +78,6 @@ returns-in_err-scan_slot-clause-before g c = λ h n e.
     let was = c.loop-slot.invariant in
     where_refused c.from_residual.result (passed_good c.args.geometry.now.shape (g.D.Disk.seen c.args.disk.now) c.args.session (half_number c.args.half) c.loop-slot.slot n c.args.gates.now c.loop-slot.found (omega (arith, c.loop-slot-test.true, c.requires.gates))
     (c.is_open.ensures.0 c.if-not-is_open.false) (omega (arith, e, was.steps, c.in_err-scan_slot.ensures.ticks)) (was.found h))
+
+pub returns-clause-lawful : goal.returns-clause-lawful
+returns-clause-lawful g c = c.loop-slot.invariant.lawful (lawful_none c.args.session c.args.found.now c.requires.empty)
