@@ -22,3 +22,4 @@ pub mod Unique
 pub mod Naming
 pub mod Writing
 pub mod Filling
+pub mod Telling

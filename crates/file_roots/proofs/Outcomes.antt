@@ -1,8 +1,12 @@
 -- Facts of what one of two results is, where both are answers or both are refusals.
-use Rattle.std.proofs.Common.{◌≡◌, ◌∙◌, true, false, true≢false, refl, sym, ap, Result, Ok, Err}
+use Rattle.std.proofs.Common.{◌≡◌, ◌≢◌, ◌∙◌, true, false, true≢false, refl, sym, ap, subst, Result, Ok, Err}
 use Rattle.std.specs.Prelude.{OnOk, OnErr, is_ok, IfOk, IfErr, IsErr, IsErrAnd, IsErrOf}
 use Rattle.std.proofs.lemmas.Result.{IfErr-at_err}
 use Rattle.grid_types.specs.declared.refusal.Refusal.{Refusal}
+use Rattle.grid_types.specs.declared.refusal.Refusal.TheVariants.{ReadFault, WriteFault}
+use Rattle.disk_trait.specs.declared.disk.Disk.{Ghosts}
+use Rattle.disk_trait.specs.Calls.{HasCauses}
+use Rattle.disk_trait.proofs.Calls.{causes_other}
 
 -- what is said of an answer holds of the other result's, too
 pub on_ok_also : {T U E F P Q : Type 0} (r : Result T E) (q : Result U F) → is_ok q ≡ is_ok r → (P → Q) → OnOk r P → OnOk q Q
@@ -69,3 +73,8 @@ refused_so {T} came told same = let refused : Refusal → Result T Refusal = λ 
 -- an answer is no refusal
 pub no_refusal : {T : Type 0} (v : T) (told : Refusal) → IsErrOf {T = T} {E = Refusal} (Ok v) told → ⊥
 no_refusal v told is = IfErr-at_err (λ e. ⊥) is tt
+
+-- a refusal that goes on, and is no fault of the disk
+pub told_on : {D T : Type 0} {g : Ghosts D} {a b : D} {may_come : Refusal → Type 0} (result : Result T Refusal) (e : Refusal) → IsErrAnd result (λ x. x ≡ e) → e ≢ ReadFault → e ≢ WriteFault → may_come e → HasCauses g may_come a b result
+told_on (Ok x) e goes read write may = absurd goes
+told_on {may_come = may_come} (Err x) e goes read write may = causes_other x (λ is. read (sym goes ∙ is)) (λ is. write (sym goes ∙ is)) (subst may_come (sym goes) may)

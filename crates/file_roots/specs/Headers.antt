@@ -1,6 +1,7 @@
 -- What a header page says: its gate, the number of a root, and its root, if it is open.
 use Rattle.std.specs.Prelude.{◌≡◌, ◌≢◌, ℕ, List, drop, slice_index, Option, Some, None}
 use Rattle.grid_types.specs.declared.shape.Shape.{Shape}
+use Rattle.grid_types.specs.Pages.{page_of}
 use Rattle.page_fields.specs.Fields.{number}
 use Rattle.root_pages.specs.declared.root_header.RootHeader.{RootHeader}
 use Rattle.root_pages.specs.Fields.{model_fields}
@@ -29,3 +30,8 @@ pub record AreAlikeOn (zeroth first : List ℕ) : Type 0 where
   pub zeroth_open : gate_of zeroth ≡ 1
   pub first_open : gate_of first ≡ 1
   pub numbers : root_number_at zeroth ≡ root_number_at first
+
+-- these are the two header pages of an image
+pub record AreHeaderPages (image zeroth first : List ℕ) : Type 0 where
+  pub zeroth_is : page_of 0 image ≡ zeroth
+  pub first_is : page_of 1 image ≡ first

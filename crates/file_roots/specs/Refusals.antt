@@ -7,13 +7,9 @@ use Rattle.grid_types.specs.declared.refusal.Refusal.TheVariants.{NoMemory, Read
 abbrev pub TellsDamage : Refusal → Type 0
 TellsDamage e = (p : ℕ) × (e ≡ Damaged p)
 
--- a read failed, or some page is damaged
-abbrev pub MayRefuseChoice : Refusal → Type 0
-MayRefuseChoice e = (e ≡ ReadFault) ⊎ TellsDamage e
-
 -- memory was wanting, a read failed, or some page is damaged
 abbrev pub MayRefuseReading : Refusal → Type 0
-MayRefuseReading e = (e ≡ NoMemory) ⊎ MayRefuseChoice e
+MayRefuseReading e = (e ≡ NoMemory) ⊎ ((e ≡ ReadFault) ⊎ TellsDamage e)
 
 -- a read failed, or a write or a sync did
 abbrev pub MayRefuseClosing : Refusal → Type 0

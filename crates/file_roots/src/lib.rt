@@ -17,7 +17,7 @@ pub use area_pages::{write_area, write_area_page};
 pub use closing::close_root;
 pub use header::write_header;
 pub use laws::{area_law, damage_law, replacing_law, uniqueness_law};
-pub use reading::read_newest;
+pub use reading::{read_newest, read_newest_from};
 pub use replacing::write_root;
 pub use root::header_of;
 

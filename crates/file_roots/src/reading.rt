@@ -13,8 +13,9 @@ ghost use Rattle.grid_model.specs.Roots.{WholeRoot, AreRootFields, IsNewestWhole
 ghost use Rattle.linear_scales.specs.Roots.{whole_of, IsRoot};
 ghost use Rattle.file_roots.specs.Damage.{HasAreaUpTo, IsRootDamage};
 ghost use Rattle.file_roots.specs.Gathering.{HasRoom, HasGathered};
+ghost use Rattle.file_roots.specs.Headers.{AreHeaderPages};
 ghost use Rattle.file_roots.specs.Reading.{Gathers, AreRootPagesGood, TellsNewest, TakesSteps};
-ghost use Rattle.file_roots.specs.Refusals.{MayRefuseChoice, MayRefuseReading};
+ghost use Rattle.file_roots.specs.Refusals.{MayRefuseReading};
 
 use crate::choosing::choose;
 use crate::gathering::Gathered;
@@ -25,31 +26,6 @@ use linear_scales::Root;
 use root_pages::RootHeader;
 use std::alloc::{AllocError, Global};
 use std::sync::ledger::Ledger;
-
-/// Reads both header pages, and chooses the newest root.
-fn read_fields<D: Disk, L: Ledger>(
-    disk: &mut D,
-    geometry: &Geometry,
-    steps: &mut Steps<L>,
-) -> Result<RootHeader, Refusal>
-    requires size { file_pages geometry.now.shape * PAGE_BYTES ≤ D.extent disk.old }
-    ensures found { IsTrue (D.honest disk.old)
-        → IfOk result (λ f. IsNewest geometry.now.shape (D.seen disk.old) (model_fields f)) }
-    ensures lawful { IfOk result (λ f. AreRootFields geometry.now.shape (model_fields f)) }
-    ensures damaged { IsTrue (D.honest disk.old)
-        → (p : ℕ)
-        → IsErrOf result (Damaged p)
-        → IsRootDamage geometry.now.shape (D.seen disk.old) p }
-    ensures same { OnlyReads D.Disk disk.old disk.new }
-    ensures causes { HasCauses D.Disk MayRefuseChoice disk.old disk.new result }
-    ensures ticks { TakesSteps 2 steps.old steps.new result }
-{
-    let mut zeroth = [0; PAGE_BYTES];
-    read_page(disk, 0, &mut zeroth, steps)?;
-    let mut first = [0; PAGE_BYTES];
-    read_page(disk, 1, &mut first, steps)?;
-    choose(&zeroth, &first, geometry)
-}
 
 /// Reads page `i` of the root's table area, and takes what it says.
 fn read_area_page<const K: usize, D: Disk, L: Ledger>(
@@ -109,27 +85,33 @@ fn read_area<const K: usize, D: Disk, L: Ledger>(
     Ok(())
 }
 
-/// Reads the newest root: both header pages, and then its table area in order.
+/// Reads the newest root of a file with these header pages, whose table area it reads in order.
 fn read_root<const K: usize, D: Disk, L: Ledger>(
     alloc: Global,
     disk: &mut D,
     geometry: &Geometry,
+    zeroth: &[u8; PAGE_BYTES],
+    first: &[u8; PAGE_BYTES],
     steps: &mut Steps<L>,
 ) -> Result<Root<K>, Refusal>
     requires attributes { geometry.now.shape.k ≡ K }
     requires size { file_pages geometry.now.shape * PAGE_BYTES ≤ D.extent disk.old }
     ensures found { IsTrue (D.honest disk.old)
+        → AreHeaderPages (D.seen disk.old) zeroth.now first.now
         → IfOk result (λ root. IsNewestWhole geometry.now.shape (whole_of root) (D.seen disk.old)) }
     ensures damaged { IsTrue (D.honest disk.old)
+        → AreHeaderPages (D.seen disk.old) zeroth.now first.now
         → (p : ℕ)
         → IsErrOf result (Damaged p)
         → IsRootDamage geometry.now.shape (D.seen disk.old) p }
     ensures no_memory { IsTrue (D.honest disk.old)
+        → AreHeaderPages (D.seen disk.old) zeroth.now first.now
         → IsErrOf result NoMemory
         → (r : RootFields) × IsNewest geometry.now.shape (D.seen disk.old) r }
     ensures good_before { IsTrue (D.honest disk.old)
+        → AreHeaderPages (D.seen disk.old) zeroth.now first.now
         → (n : ℕ)
-        → steps.new ≡ steps.old + n + 1
+        → steps.new + 2 ≡ steps.old + n + 1
         → 2 ≤ n
         → OnErr result (AreRootPagesGood geometry.now.shape (D.seen disk.old) n) }
     ensures lawful { IfOk result (λ root. IsRoot geometry.now.shape root) }
@@ -137,9 +119,9 @@ fn read_root<const K: usize, D: Disk, L: Ledger>(
         limits_of root.scales ≡ replicate K geometry.now.shape.boundaries) }
     ensures same { OnlyReads D.Disk disk.old disk.new }
     ensures causes { HasCauses D.Disk MayRefuseReading disk.old disk.new result }
-    ensures ticks { TakesSteps (2 + area_pages geometry.now.shape) steps.old steps.new result }
+    ensures ticks { TakesSteps (area_pages geometry.now.shape) steps.old steps.new result }
 {
-    let fields = read_fields(disk, geometry, steps)?;
+    let fields = choose(zeroth, first, geometry)?;
     let mut gathered = match Gathered::<K>::new(alloc, geometry) {
         Ok(gathered) => gathered,
         Err(AllocError) => return Err(Refusal::NoMemory),
@@ -154,6 +136,31 @@ fn read_root<const K: usize, D: Disk, L: Ledger>(
         parts: gathered.parts,
         table: gathered.table,
     })
+}
+
+/// Reads the newest root of a file whose header pages are at hand: its table area in order, and neither header page again.
+/// It tells what `read_newest` tells, as if it had read the two header pages first.
+pub fn read_newest_from<const K: usize, D: Disk, L: Ledger>(
+    alloc: Global,
+    disk: &mut D,
+    geometry: &Geometry,
+    zeroth: &[u8; PAGE_BYTES],
+    first: &[u8; PAGE_BYTES],
+    steps: &mut Steps<L>,
+) -> Result<Root<K>, Refusal>
+    requires attributes { geometry.now.shape.k ≡ K }
+    requires size { file_pages geometry.now.shape * PAGE_BYTES ≤ D.extent disk.old }
+    ensures tells { IsTrue (D.honest disk.old)
+        → AreHeaderPages (D.seen disk.old) zeroth.now first.now
+        → TellsNewest geometry.now.shape (D.seen disk.old) steps.old (steps.new + 2) result }
+    ensures lawful { IfOk result (λ root. IsRoot geometry.now.shape root) }
+    ensures limits { IfOk result (λ root.
+        limits_of root.scales ≡ replicate K geometry.now.shape.boundaries) }
+    ensures same { OnlyReads D.Disk disk.old disk.new }
+    ensures causes { HasCauses D.Disk MayRefuseReading disk.old disk.new result }
+    ensures ticks { TakesSteps (area_pages geometry.now.shape) steps.old steps.new result }
+{
+    read_root(alloc, disk, geometry, zeroth, first, steps)
 }
 
 /// Reads the newest root: both header pages, and then its table area in order. A page that is not what it has to be is
@@ -175,5 +182,9 @@ pub fn read_newest<const K: usize, D: Disk, L: Ledger>(
     ensures causes { HasCauses D.Disk MayRefuseReading disk.old disk.new result }
     ensures ticks { TakesSteps (2 + area_pages geometry.now.shape) steps.old steps.new result }
 {
-    read_root(alloc, disk, geometry, steps)
+    let mut zeroth = [0; PAGE_BYTES];
+    read_page(disk, 0, &mut zeroth, steps)?;
+    let mut first = [0; PAGE_BYTES];
+    read_page(disk, 1, &mut first, steps)?;
+    read_newest_from(alloc, disk, geometry, &zeroth, &first, steps)
 }
