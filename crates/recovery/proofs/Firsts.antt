@@ -1,5 +1,5 @@
 -- Which refusals are first faults, and what makes a survey.
-use Rattle.std.proofs.Common.{◌≡◌, ◌⊎◌, ◌∙◌, inl, inr, ℕ, List, sym, ap, subst, Result, Ok, Err}
+use Rattle.std.proofs.Common.{◌≡◌, ◌⊎◌, ◌∙◌, inl, inr, ℕ, List, sym, subst, Result, Ok, Err}
 use Rattle.std.specs.Prelude.{IsErrAnd, IfErr}
 use Rattle.grid_types.specs.declared.shape.Shape.{Shape}
 use Rattle.grid_types.specs.declared.refusal.Refusal.{Refusal}
@@ -12,10 +12,11 @@ use Rattle.journal_slots.specs.Scans.{IsRefusalOfScan}
 use Rattle.file_roots.specs.Damage.{IsRootDamage}
 use Rattle.file_roots.specs.Refusals.{MayRefuseReading}
 use Rattle.recovery.specs.Beginnings.{BeginsWhole, IsShapeFault}
-use Rattle.recovery.specs.Faults.{IsJournalDamage, IsFirstFault, IsNoFaultOr}
+use Rattle.recovery.specs.Faults.{IsJournalDamage, IsFirstFault, IsNoFaultOr, HasNewestRoot}
 use Rattle.recovery.specs.Joins.{AreLawfulOrEmpty}
-use Rattle.recovery.specs.Surveys.{IsJournal, IsSurvey, survey_pages}
+use Rattle.recovery.specs.Surveys.{IsRooted, IsJournal, IsSurvey}
 use Rattle.recovery.specs.declared.journal.Journal.{Journal}
+use Rattle.recovery.specs.declared.rooted.Rooted.{Rooted}
 use Rattle.recovery.specs.declared.survey.Survey.{Survey}
 use Rattle.recovery.proofs.Halves.{session_lawful}
 use Rattle.recovery.proofs.OneAnswer.{one_shape_spelled}
@@ -69,6 +70,10 @@ survey_of image survey journal has whole is joined used =
       used = used ∙ is.used;
     }
 
--- an image has one shape, and so one number of pages that a survey reads at most
-pub pages_same : (image : List ℕ) (K : ℕ) (s t : Shape) → HasShape K image s → BeginsWhole image t → survey_pages s ≡ survey_pages t
-pages_same image K s t has begins = ap survey_pages (one_shape_spelled (page_of 0 image) s t (record { lawful = has.lawful; bytes = has.first }) begins.spelled)
+-- an image of a shape begins with that one
+pub shape_same : (image : List ℕ) (K : ℕ) (s t : Shape) → HasShape K image s → BeginsWhole image t → s ≡ t
+shape_same image K s t has begins = one_shape_spelled (page_of 0 image) s t (record { lawful = has.lawful; bytes = has.first }) begins.spelled
+
+-- a file whose newest root is whole has a newest root
+pub rooted_newest : {K : ℕ} (image : List ℕ) (rooted : Rooted K) → IsRooted image rooted → HasNewestRoot K image
+rooted_newest image rooted is = record { shape = rooted.geometry.shape; has = is.shape; root = (whole_of rooted.root).fields; newest = is.whole.newest }

@@ -1,5 +1,5 @@
 -- What is good of the pages before one that a read failed of.
-use Rattle.std.proofs.Common.{◌≡◌, ◌<◌, ◌≤◌, ◌+◌, ◌-◌, inr, ℕ, List, length, arith, subst}
+use Rattle.std.proofs.Common.{◌≡◌, ◌<◌, ◌≤◌, ◌+◌, inr, ℕ, List, length, arith, subst}
 use Rattle.grid_types.specs.declared.shape.Shape.{Shape}
 use Rattle.grid_types.specs.Shapes.{area_pages}
 use Rattle.grid_model.specs.Images.{HasShape, open_slots_of}
@@ -39,7 +39,7 @@ module _ {K : ℕ} (image : List ℕ) where
     begins_so = record { spelled = record { lawful = has.lawful; bytes = has.first }; long = has.long }
 
     -- while the newest root is read
-    pub good_roots : (n : ℕ) → n < 4 + area_pages s → (4 ≤ n → AreRootPagesGood s image (n - 2)) → AreGoodUpTo K image n
+    pub good_roots : (n : ℕ) → n < 2 + area_pages s → (2 ≤ n → AreRootPagesGood s image n) → AreGoodUpTo K image n
     good_roots n lt roots = record {
       shape = s;
       begins = λ le. begins_so;
@@ -50,7 +50,7 @@ module _ {K : ℕ} (image : List ℕ) where
     }
 
     -- while the journal is read
-    pub good_journal : (w : WholeRoot) → IsNewestWhole s w image → (n m : ℕ) → n ≡ 4 + area_pages s + m → IsJournalGoodUpTo K s image m → AreGoodUpTo K image n
+    pub good_journal : (w : WholeRoot) → IsNewestWhole s w image → (n m : ℕ) → n ≡ 2 + area_pages s + m → IsJournalGoodUpTo K s image m → AreGoodUpTo K image n
     good_journal w whole n m e good = record {
       shape = s;
       begins = λ le. begins_so;

@@ -1,41 +1,27 @@
 -- What two scans find in the journal, and that no page of what was scanned is bad.
-use Rattle.std.proofs.Common.{◌≡◌, ◌⊎◌, inl, inr, ◌<◌, ◌≤◌, ◌+◌, ◌-◌, ◌==◌, ℕ, zero, suc, List, [], ◌∷◌, ◌++◌, filter, length, get_or, slice_index, Some, Contains, refl, sym, ap, subst, ◌∙◌, arith, length-append}
+use Rattle.std.proofs.Common.{◌≡◌, ◌⊎◌, inl, inr, ◌<◌, ◌≤◌, ◌+◌, ◌-◌, ◌==◌, ℕ, zero, suc, List, [], ◌∷◌, ◌++◌, length, get_or, slice_index, sym, ap, subst, ◌∙◌, arith, length-append}
 use Rattle.std.specs.Prelude.{slice_get, All}
-use Rattle.std.proofs.lemmas.List.Elements.{All-filter, filter-append, Contains-append_left, Contains-append_right}
+use Rattle.std.proofs.lemmas.List.Elements.{All-filter, All-append, filter-append}
 use Rattle.std.proofs.lemmas.Option.{slice_get-get_or}
 use Rattle.grid_types.specs.declared.shape.Shape.{Shape}
-use Rattle.grid_types.specs.Pages.{page_of}
-use Rattle.grid_types.specs.Shapes as places
 use Rattle.grid_types.proofs.Places.{one-of-two}
-use Rattle.grid_model.specs.Lists.{below}
 use Rattle.grid_model.specs.Spellings.{LoggedBatch}
 use Rattle.grid_model.specs.Lawful.{IsBatch}
-use Rattle.grid_model.specs.Images.{HasGatesOf, HasBatches, open_slots, open_slots_of, of_session, Found, IsFound}
-use Rattle.grid_model.proofs.Members.{contains-filter, contains-range, contains-map}
-use Rattle.journal_slots.proofs.OneScan.{the_gates}
+use Rattle.grid_model.specs.Images.{HasBatches, open_slots_of, of_session}
 use Rattle.journal_slots.specs.declared.scan.Scan.{Scan}
-use Rattle.journal_slots.specs.Scans.{IsScan, SpellsSome}
+use Rattle.journal_slots.specs.Scans.{IsScan, IsLawfulOf, AreLawfulOf, IsLawfulScan}
+use Rattle.journal_slots.proofs.GoodPages.{front_get}
+use Rattle.journal_slots.proofs.GoodHalves.{good_half}
 use Rattle.recovery.specs.Faults.{IsGoodHalf}
 use Rattle.recovery.specs.Joins.{AreLawfulOrEmpty, empty_batch}
-use Rattle.recovery.specs.Surveys.{IsJournal}
+use Rattle.recovery.specs.Surveys.{IsJournal, IsLawfulJournal}
 use Rattle.recovery.specs.declared.journal.Journal.{Journal}
 
--- an item of two lists behind one another
-get_left : {X : Type 0} (xs ys : List X) (i : ℕ) → i < length xs → slice_get (xs ++ ys) i ≡ slice_get xs i
-get_left [] ys i lt = absurd (omega (arith, lt))
-get_left (x ∷ xs) ys zero lt = refl
-get_left (x ∷ xs) ys (suc i) lt = get_left xs ys i (omega (arith, lt))
-
+-- an item of the second of two lists behind one another
 get_right : {X : Type 0} (xs ys : List X) (i j : ℕ) → i ≡ length xs + j → slice_get (xs ++ ys) i ≡ slice_get ys j
 get_right [] ys i j e = ap (slice_get ys) (omega (arith, e))
 get_right (x ∷ xs) ys zero j e = absurd (omega (arith, e))
 get_right (x ∷ xs) ys (suc i) j e = get_right xs ys i j (omega (arith, e))
-
--- an open slot of a half is among the open slots
-opened_there : (gates : List ℕ) (half slot : ℕ) → slot < length gates → slice_index gates slot ≡ 1 → Contains (open_slots_of gates half) (half, slot)
-opened_there gates half slot lt opened =
-    contains-map (λ i. (half, i)) (filter (λ i. slice_index gates i == 1) (below (length gates))) slot
-    (contains-filter (λ i. slice_index gates i == 1) (below (length gates)) slot (contains-range 0 (length gates) slot (omega arith) (omega (arith, lt))) (ap (λ x. x == 1) opened))
 
 module _ {K : ℕ} (s : Shape) (image : List ℕ) where
   -- slots with their batches, and other slots with theirs
@@ -43,7 +29,7 @@ module _ {K : ℕ} (s : Shape) (image : List ℕ) where
   both_have xs ys bs cs x y = record {
     count = omega (arith, x.count, y.count, length-append xs ys, length-append bs cs);
     each = λ i slot b at is. elim (nat_cases i (length xs)) [
-      | inl lt ↦ x.each i slot b (sym (get_left xs ys i lt) ∙ at) (sym (get_left bs cs i (omega (arith, lt, x.count))) ∙ is)
+      | inl lt ↦ x.each i slot b (sym (front_get xs ys i lt) ∙ at) (sym (front_get bs cs i (omega (arith, lt, x.count))) ∙ is)
       | inr le ↦
           let j : ℕ = i - length xs in
           y.each j slot b (sym (get_right xs ys i j (omega (arith, le))) ∙ at) (sym (get_right bs cs i j (omega (arith, le, x.count))) ∙ is)
@@ -62,30 +48,9 @@ module _ {K : ℕ} (s : Shape) (image : List ℕ) where
   pub session_lawful : (slots : List (ℕ × ℕ)) (bs : List (LoggedBatch K)) (session : ℕ) → HasBatches s image slots bs → AreLawfulOrEmpty (of_session session bs)
   session_lawful slots bs session has = λ i lt some. All-filter (λ b. b.session == session) IsBatch bs (slots_lawful slots bs has) i empty_batch lt
 
-  -- among slots that have batches each spells one
-  spells_some : (slots : List (ℕ × ℕ)) (bs : List (LoggedBatch K)) (slot : ℕ × ℕ) → HasBatches s image slots bs → Contains slots slot → SpellsSome K (page_of (places.slot_page s slot.0 slot.1) image)
-  spells_some slots bs slot has there =
-      let i = there.0 in
-      let b = get_or bs i empty_batch in
-      record {
-        batch = b;
-        spelled = has.each i slot b (slice_get-get_or slots i slot there.1 ∙ ap Some there.2) (slice_get-get_or bs i empty_batch (omega (arith, there.1, has.count)));
-      }
-
-  -- no page of a half is bad whose gates are spelled, and whose open slots are among slots that have batches
-  pub good_half : (half : ℕ) (gates : List ℕ) (slots : List (ℕ × ℕ)) (bs : List (LoggedBatch K)) → HasGatesOf s image half gates → HasBatches s image slots bs
-      → ((slot : ℕ × ℕ) → Contains (open_slots_of gates half) slot → Contains slots slot) → IsGoodHalf K s image half
-  good_half half gates slots bs spelled has among page (inl bad) = bad.none gates spelled
-  good_half half gates slots bs spelled has among page (inr bad) =
-      let same : bad.gates ≡ gates = the_gates s image half bad.gates bad.spelled ∙ sym (the_gates s image half gates spelled) in
-      let slot = bad.first.slot in
-      let there : Contains (open_slots_of bad.gates half) (half, slot) = opened_there bad.gates half slot (omega (arith, bad.first.inside, bad.spelled.count)) bad.first.opened in
-      let some = spells_some slots bs (half, slot) has (among (half, slot) (subst (λ gs. Contains (open_slots_of gs half) (half, slot)) same there)) in
-      bad.first.none (subst (λ p. SpellsSome K (page_of p image)) (sym bad.first.page_is) some)
-
   -- no page of a half that was scanned is bad
   pub scanned_good : (half session : ℕ) (scan : Scan K) → IsScan s image half session scan → IsGoodHalf K s image half
-  scanned_good half session scan is = good_half half is.gates (open_slots_of is.gates half) is.found.all is.spelled is.found.each (λ slot there. there)
+  scanned_good half session scan is = good_half s image half is.gates (open_slots_of is.gates half) is.found.all is.spelled is.found.each (λ slot there. there)
 
   -- two scans make a journal
   pub journal_of : (session : ℕ) (x y : Scan K) (journal : Journal K) → IsScan s image 0 session x → IsScan s image 1 session y → journal.batches ≡ x.batches ++ y.batches → journal.used ≡ x.used ∷ y.used ∷ [] → IsJournal s image session journal
@@ -100,9 +65,12 @@ module _ {K : ℕ} (s : Shape) (image : List ℕ) where
         used = used ∙ (λ i. first.used i ∷ second.used i ∷ []);
       }
 
--- no page of a half is bad where all that a survey looks for is found
-pub found_good : {K : ℕ} (image : List ℕ) (f : Found K) (n : ℕ) → IsFound image f n → (half : ℕ) → half < 2 → IsGoodHalf K f.shape image half
-found_good image f n is half two = elim (one-of-two half two) [
-  | inl first ↦ rw first (good_half f.shape image 0 f.gates.first (open_slots f.gates) f.batches is.gates.first is.batches (λ slot there. Contains-append_left (open_slots_of f.gates.first 0) (open_slots_of f.gates.second 1) slot there))
-  | inr second ↦ rw second (good_half f.shape image 1 f.gates.second (open_slots f.gates) f.batches is.gates.second is.batches (λ slot there. Contains-append_right (open_slots_of f.gates.first 0) (open_slots_of f.gates.second 1) slot there))
-]
+  -- and a lawful one, where both are lawful
+  pub journal_lawful : (session : ℕ) (x y : Scan K) (journal : Journal K) → IsLawfulScan s session x → IsLawfulScan s session y → journal.batches ≡ x.batches ++ y.batches → journal.used ≡ x.used ∷ y.used ∷ [] → IsLawfulJournal s session journal
+  journal_lawful session x y journal first second batches used = record {
+    few = λ half two. elim (one-of-two half two) [
+      | inl e ↦ let at : slice_index journal.used half ≡ x.used = λ i. slice_index (used i) (e i) in omega (arith, at, first.few)
+      | inr e ↦ let at : slice_index journal.used half ≡ y.used = λ i. slice_index (used i) (e i) in omega (arith, at, second.few)
+    ];
+    batches = subst (AreLawfulOf session) (sym batches) (All-append (IsLawfulOf session) x.batches y.batches first.batches second.batches);
+  }

@@ -16,6 +16,7 @@ use Rattle.root_pages.specs.Headers.{SpellsShape}
 use Rattle.root_pages.proofs.ShapePlaces.{shape_there, shape_again}
 use Rattle.journal_slots.specs.Scans.{IsFirstBadPage, IsBadSlot, SpellsSome}
 use Rattle.journal_slots.proofs.OneScan.{the_gates}
+use Rattle.journal_slots.proofs.GoodHalves.{found_good}
 use Rattle.file_roots.specs.Damage.{IsRootDamage}
 use Rattle.file_roots.proofs.Headers.{header_inside}
 use Rattle.file_roots.proofs.Naming.{one_is_damaged}
@@ -23,7 +24,6 @@ use Rattle.file_roots.proofs.Unique.{undamaged, one_file_shape}
 use Rattle.recovery.specs.Beginnings.{version_on, BeginsAsGrid, IsForeign, IsOurs, HasUnknownVersion, IsShapeless, IsShort, IsUneven, BeginsWhole, IsShapeFault}
 use Rattle.recovery.specs.Faults.{IsOtherArity, IsJournalDamage, HasBadJournal, IsDamagedBehind, IsFirstFault}
 use Rattle.recovery.specs.Laws.{HasOneAnswer, CountsUpdates}
-use Rattle.recovery.proofs.Halves.{found_good}
 
 -- the bytes of a shape begin with the kind of a grid file, and with the known version behind it
 kind_first : (s : Shape) → take 8 (shape_bytes s) ≡ codes "GRIDFILE"

@@ -1,8 +1,10 @@
 -- Batches that are taken out of a list, one after the other.
 use Rattle.std.proofs.Common.{◌≡◌, inl, inr, ◌<◌, ◌≤◌, ◌+◌, ◌==◌, ℕ, zero, suc, Bool, true, false, List, [], ◌∷◌, ◌++◌, length, get_or, set, cond, Some, None, refl, sym, ap, subst, ◌∙◌, arith, append_assoc, length-append, flat_map, eq-eqb}
+use Rattle.std.specs.Prelude.{All, Contains}
 use Rattle.std.specs.List as lists
 use Rattle.std.proofs.lemmas.Grind.{flat_map-append}
 use Rattle.std.proofs.lemmas.Bool.{cases_eq, ne_eqb}
+use Rattle.std.proofs.lemmas.List.Elements.{All-nil, All-push, All-set, All-weaker, All-contains_itself}
 use Rattle.std.proofs.lemmas.List.{append-nil, length-set, get_or-set_other, get_or-set_same}
 use Rattle.grid_model.specs.Spellings.{LoggedBatch}
 use Rattle.grid_model.specs.Lawful.{IsBatch}
@@ -42,10 +44,6 @@ module _ {K : ℕ} where
   not_next : (left : List (LoggedBatch K)) (place j : ℕ) → AreLawfulOrEmpty left → j < length left → (LeadsOn place (get_or left j empty_batch) → ⊥) → ((get_or left j empty_batch).first == place + 1) ≡ false
   not_next left place j lawful lt none = ne_eqb (get_or left j empty_batch).first (place + 1)
       (λ e. none (lawful_leads place (get_or left j empty_batch) (lawful j lt (λ zero. absurd (omega (arith, e, zero)))) e))
-
-  -- nothing was taken yet
-  pub taking_begins : (all : List (LoggedBatch K)) (front : ℕ) → AreLawfulOrEmpty all → IsTaking all front [] all front
-  taking_begins all front lawful = record { joined = λ more n join. join; same = λ q le. refl; lawful = lawful }
 
   -- a batch more is taken
   one_more : (all taken left : List (LoggedBatch K)) (front place i : ℕ) (b : LoggedBatch K) → IsTaking all front taken left place → IsFirstOn left place i → b ≡ get_or left i empty_batch
@@ -89,3 +87,23 @@ one_counted {K} front place next taken more b counted added reached =
     let updates : LoggedBatch K → _ = λ c. c.updates in
     let all : flat_map updates more ≡ flat_map updates taken ++ b.updates = ap (flat_map updates) added ∙ flat_map-append updates taken (b ∷ []) ∙ ap (λ us. flat_map updates taken ++ us) (append-nil b.updates) in
     omega (arith, counted, reached, ap length all, length-append (flat_map updates taken) b.updates)
+
+-- of a list some batches were taken, each of which is of the list, and what is left has updates only in batches of the list
+pub record AreFrom {K : ℕ} (all taken left : List (LoggedBatch K)) : Type 0 where
+  pub among : All (Contains all) taken
+  pub rest : All (λ b. 1 ≤ length b.updates → Contains all b) left
+
+module _ {K : ℕ} (all : List (LoggedBatch K)) where
+  -- nothing was taken yet
+  pub from_begins : (taken : List (LoggedBatch K)) → taken ≡ [] → AreFrom all taken all
+  from_begins taken none = record {
+    among = subst (All (Contains all)) (sym none) (All-nil (Contains all));
+    rest = All-weaker (Contains all) (λ b. 1 ≤ length b.updates → Contains all b) (λ b there some. there) all (All-contains_itself all);
+  }
+
+  -- a batch more is taken
+  pub from_more : (taken left more fewer : List (LoggedBatch K)) (place i : ℕ) (b : LoggedBatch K) → AreFrom all taken left → IsFirstOn left place i → b ≡ get_or left i empty_batch → more ≡ taken ++ b ∷ [] → fewer ≡ set left i empty_batch → AreFrom all more fewer
+  from_more taken left more fewer place i b had first is added gone = record {
+    among = subst (All (Contains all)) (sym added) (All-push (Contains all) taken b had.among (subst (Contains all) (sym is) (had.rest i empty_batch first.inside first.leads.some)));
+    rest = subst (All (λ c. 1 ≤ length c.updates → Contains all c)) (sym gone) (All-set (λ c. 1 ≤ length c.updates → Contains all c) left i empty_batch (λ some. absurd (omega (arith, some))) had.rest);
+  }

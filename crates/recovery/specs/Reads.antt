@@ -1,5 +1,5 @@
 -- What is good of the pages that a survey has read.
-use Rattle.std.specs.Prelude.{◌≡◌, ◌⊎◌, ◌<◌, ◌≤◌, ◌+◌, ◌-◌, ℕ, List, length}
+use Rattle.std.specs.Prelude.{◌≡◌, ◌⊎◌, ◌<◌, ◌≤◌, ◌+◌, ℕ, List, length}
 use Rattle.grid_types.specs.declared.shape.Shape.{Shape}
 use Rattle.grid_types.specs.Shapes.{area_pages}
 use Rattle.grid_model.specs.Images.{HasShape, HasGatesOf, open_slots_of}
@@ -22,11 +22,11 @@ pub record IsSecondGoodUpTo (K : ℕ) (s : Shape) (image : List ℕ) (n : ℕ) :
 abbrev pub IsJournalGoodUpTo : ℕ → Shape → List ℕ → ℕ → Type 0
 IsJournalGoodUpTo K s image n = IsGoodUpTo K s image 0 n ⊎ IsSecondGoodUpTo K s image n
 
--- the first n pages that a survey reads are good: page 0 begins with a shape whose pages are all there; with page 1 it is a file of K attributes; both header pages, read again, have a newest root, and its table area is spelled page by page; and then the journal is
+-- the first n pages that a survey reads are good: page 0 begins with a shape whose pages are all there; with page 1 it is a file of K attributes, and both header pages have a newest root; its table area is spelled page by page; and then the journal is
 pub record AreGoodUpTo (K : ℕ) (image : List ℕ) (n : ℕ) : Type 0 where
   pub shape : Shape
   pub begins : 1 ≤ n → BeginsWhole image shape
   pub has : 2 ≤ n → HasShape K image shape
-  pub roots : 4 ≤ n → n < 4 + area_pages shape → AreRootPagesGood shape image (n - 2)
-  pub whole : 4 + area_pages shape ≤ n → (w : WholeRoot) × IsNewestWhole shape w image
-  pub journal : (m : ℕ) → n ≡ 4 + area_pages shape + m → IsJournalGoodUpTo K shape image m
+  pub roots : 2 ≤ n → n < 2 + area_pages shape → AreRootPagesGood shape image n
+  pub whole : 2 + area_pages shape ≤ n → (w : WholeRoot) × IsNewestWhole shape w image
+  pub journal : (m : ℕ) → n ≡ 2 + area_pages shape + m → IsJournalGoodUpTo K shape image m

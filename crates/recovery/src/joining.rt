@@ -1,5 +1,5 @@
 //! The batches that join the root, one after the other.
-ghost use Rattle.std.specs.Prelude.{◌≡◌, ◌<◌, ◌≤◌, ◌+◌, ◌↔◌, ◌^◌, flat_map, map, length, slice_index_or, slice_set, IsTrue, IfSome, IfNone, IfOk};
+ghost use Rattle.std.specs.Prelude.{◌≡◌, ◌<◌, ◌≤◌, ◌+◌, ◌↔◌, ◌^◌, flat_map, map, length, slice_index_or, slice_set, All, Contains, IsTrue, IfSome, IfNone, IfOk};
 ghost use Rattle.grid_types.specs.declared.sizes.TheConstants.{MOST_ATTRIBUTES};
 ghost use Rattle.grid_model.specs.Images.{Join};
 ghost use Rattle.journal_slots.specs.Batches.{batch_of};
@@ -65,6 +65,7 @@ pub fn join<const K: usize>(
     requires front { front < 2 ^ 63 }
     ensures joined { AreLawfulOrEmpty batches.entry
         → IfOk result (λ j. Join batches.entry front j.taken j.front) }
+    ensures among { IfOk result (λ j. All (Contains batches.entry) j.taken) }
     ensures count { IfOk result (λ j.
         j.front ≡ front + length (flat_map (λ b. b.updates) j.taken)) }
     ensures small { IfOk result (λ j. j.front < 2 ^ 63) }

@@ -5,6 +5,8 @@ mod joined;
 mod joining;
 mod journal;
 mod laws;
+mod rooted;
+mod rooting;
 mod shape;
 mod survey;
 mod surveying;

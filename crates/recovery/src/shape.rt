@@ -1,5 +1,5 @@
 //! The shape of a file, from its header pages.
-ghost use Rattle.std.specs.Prelude.{◌≡◌, ◌⊎◌, ◌↔◌, ◌≤◌, ◌+◌, ◌*◌, ℕ, List, IsTrue, IfOk, IfErr, OnErr, length, take};
+ghost use Rattle.std.specs.Prelude.{◌≡◌, ◌⊎◌, ◌↔◌, ◌≤◌, ◌+◌, ◌*◌, ℕ, List, IsTrue, IfOk, OnOk, IfErr, OnErr, length, take};
 ghost use Rattle.grid_types.specs.declared.sizes.TheConstants.{PAGE_BYTES};
 ghost use Rattle.grid_types.specs.declared.refusal.Refusal.TheVariants.{ReadFault};
 ghost use Rattle.grid_types.specs.Pages.{page_of};
@@ -7,6 +7,7 @@ ghost use Rattle.grid_types.specs.Shapes.{file_pages};
 ghost use Rattle.grid_model.specs.Images.{HasShape};
 ghost use Rattle.root_pages.specs.Headers.{SpellsShape};
 ghost use Rattle.disk_trait.specs.Calls.{OnlyReads, HasCauses};
+ghost use Rattle.file_roots.specs.Headers.{AreHeaderPages};
 ghost use Rattle.file_roots.specs.Reading.{TakesSteps};
 ghost use Rattle.recovery.specs.Beginnings.{BeginsAsGrid, IsShapeFault, BeginsWithShape};
 ghost use Rattle.recovery.specs.Refusals.{TellsShape, MayRefuseShape};
@@ -62,6 +63,41 @@ fn judge_first_page(page: &[u8; PAGE_BYTES], size: u64) -> Result<Geometry, Refu
     Ok(geometry)
 }
 
+/// The geometry of a file, from its header pages: page 0 is read and judged, and then page 1. They stand in `zeroth` and in
+/// `first` then, for a caller who reads more on them. It takes no memory.
+pub(crate) fn read_headers<D: Disk, L: Ledger>(
+    disk: &mut D,
+    zeroth: &mut [u8; PAGE_BYTES],
+    first: &mut [u8; PAGE_BYTES],
+    steps: &mut Steps<L>,
+) -> Result<Geometry, Refusal>
+    ensures pages { IsTrue (D.honest disk.old)
+        → OnOk result (AreHeaderPages (D.seen disk.old) zeroth.new first.new) }
+    ensures found { IsTrue (D.honest disk.old)
+        → IfOk result (λ g. HasShape g.shape.k (D.seen disk.old) g.shape) }
+    ensures long { IfOk result (λ g. file_pages g.shape * PAGE_BYTES ≤ D.extent disk.old) }
+    ensures first { IsTrue (D.honest disk.old)
+        → IfErr result (λ e. (e ≡ ReadFault) ⊎ IsShapeFault (D.seen disk.old) e) }
+    ensures before { IsTrue (D.honest disk.old)
+        → steps.new ≡ steps.old + 2
+        → OnErr result (BeginsWithShape (D.seen disk.old)) }
+    ensures same { OnlyReads D.Disk disk.old disk.new }
+    ensures causes { HasCauses D.Disk MayRefuseShape disk.old disk.new result }
+    ensures ticks { TakesSteps 2 steps.old steps.new result }
+{
+    let size = disk.size();
+    if size < 2 * PAGE_BYTES as u64 {
+        return Err(Refusal::Foreign);
+    }
+    read_page(disk, 0, zeroth, steps)?;
+    let geometry = judge_first_page(zeroth, size)?;
+    read_page(disk, 1, first, steps)?;
+    if !begin_alike(zeroth, first) {
+        return Err(Refusal::Damaged { page: 1 });
+    }
+    Ok(geometry)
+}
+
 /// The geometry of a file, from its header pages: page 0 is read and judged, and then page 1. It takes no memory.
 pub fn read_shape<D: Disk, L: Ledger>(
     disk: &mut D,
@@ -79,17 +115,7 @@ pub fn read_shape<D: Disk, L: Ledger>(
     ensures causes { HasCauses D.Disk MayRefuseShape disk.old disk.new result }
     ensures ticks { TakesSteps 2 steps.old steps.new result }
 {
-    let size = disk.size();
-    if size < 2 * PAGE_BYTES as u64 {
-        return Err(Refusal::Foreign);
-    }
     let mut zeroth = [0; PAGE_BYTES];
-    read_page(disk, 0, &mut zeroth, steps)?;
-    let geometry = judge_first_page(&zeroth, size)?;
     let mut first = [0; PAGE_BYTES];
-    read_page(disk, 1, &mut first, steps)?;
-    if !begin_alike(&zeroth, &first) {
-        return Err(Refusal::Damaged { page: 1 });
-    }
-    Ok(geometry)
+    read_headers(disk, &mut zeroth, &mut first, steps)
 }

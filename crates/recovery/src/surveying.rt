@@ -10,14 +10,13 @@ ghost use Rattle.recovery.specs.Beginnings.{BeginsWhole};
 ghost use Rattle.recovery.specs.Faults.{IsJournalDamage, IsFirstFault, IsNoFaultOr, HasNewestRoot};
 ghost use Rattle.recovery.specs.Reads.{IsJournalGoodUpTo, AreGoodUpTo};
 ghost use Rattle.recovery.specs.Refusals.{MayRefuseSurvey};
-ghost use Rattle.recovery.specs.Surveys.{IsJournal, IsSurvey, IsLawfulSurvey, survey_pages};
+ghost use Rattle.recovery.specs.Surveys.{IsJournal, IsLawfulJournal, IsSurvey, IsLawfulSurvey, survey_pages};
 
 use crate::joining::join;
 use crate::journal::Journal;
-use crate::read_shape;
+use crate::rooting::read_rooted;
 use crate::survey::Survey;
 use disk_trait::{Disk, Steps};
-use file_roots::read_newest;
 use grid_types::{Geometry, Half, PAGE_BYTES, Refusal};
 use journal_slots::scan_half;
 use std::alloc::{AllocError, Global};
@@ -45,6 +44,7 @@ fn read_journal<const K: usize, D: Disk, L: Ledger>(
         → steps.new ≡ steps.old + n + 1
         → IsJournalGoodUpTo K geometry.now.shape (D.seen disk.old) n }
     ensures causes { HasCauses D.Disk IsRefusalOfScan disk.old disk.new result }
+    ensures lawful { IfOk result (IsLawfulJournal geometry.now.shape session) }
     ensures least { steps.old + 1 ≤ steps.new }
     ensures most { steps.new ≤ steps.old + 2 + 2 * geometry.now.shape.slots }
     ensures same { OnlyReads D.Disk disk.old disk.new }
@@ -62,8 +62,8 @@ fn read_journal<const K: usize, D: Disk, L: Ledger>(
 }
 
 /// Looks at a file before it is opened: its shape, its newest root with the table area, and its journal, from which it takes
-/// the batches that join the root. It names the first damage, and reads neither directory nor bucket pages. Both header
-/// pages are read for the shape, and again for the root.
+/// the batches that join the root. It names the first damage, and reads neither directory nor bucket pages, and each page
+/// that it reads once.
 pub fn survey_file<const K: usize, D: Disk, L: Ledger>(
     alloc: Global,
     disk: &mut D,
@@ -89,22 +89,17 @@ pub fn survey_file<const K: usize, D: Disk, L: Ledger>(
         → BeginsWhole (D.seen disk.old) s
         → steps.new ≤ steps.old + survey_pages s }
 {
-    let geometry = read_shape(disk, steps)?;
-    if geometry.shape.k as usize != K {
-        return Err(Refusal::Arity {
-            found: geometry.shape.k,
-        });
-    }
-    let root = read_newest(alloc, disk, &geometry, steps)?;
-    let journal = read_journal(alloc, disk, &geometry, root.session, steps)?;
+    let rooted = read_rooted(alloc, disk, steps)?;
+    let session = rooted.root.session;
+    let journal = read_journal(alloc, disk, &rooted.geometry, session, steps)?;
     let used = journal.used;
-    let joined = match join(alloc, journal.batches, root.front) {
+    let joined = match join(alloc, journal.batches, rooted.root.front) {
         Ok(joined) => joined,
         Err(AllocError) => return Err(Refusal::NoMemory),
     };
     Ok(Survey {
-        geometry,
-        root,
+        geometry: rooted.geometry,
+        root: rooted.root,
         taken: joined.taken,
         front: joined.front,
         used,

@@ -1,8 +1,9 @@
 use Rattle.std.proofs.Common.{◌≡◌, inr, take, refl, sym, ap, subst, ◌∙◌, arith, true≢false}
 use Rattle.grid_types.specs.Pages.{page_of}
 use Rattle.root_pages.specs.Headers.{SpellsShape}
-use Rattle.recovery.proofs.Refusing.{told_on, shape_no_read, shape_no_write}
-use Rattle.recovery.proofs.shape.read_shape.Goals as goal
+use Rattle.file_roots.proofs.Outcomes.{told_on}
+use Rattle.recovery.proofs.Refusing.{shape_no_read, shape_no_write}
+use Rattle.recovery.proofs.shape.read_headers.Goals as goal
 
 pub returns-in_err-geometry-clause-causes : goal.returns-in_err-geometry-clause-causes
 returns-in_err-geometry-clause-causes g c =
@@ -25,6 +26,14 @@ returns-then-not-begin_alike-clause-first g c = λ h.
       other = λ alike. true≢false (sym (c.begin_alike.ensures.1 (ap (take 64) first ∙ alike ∙ ap (take 64) (sym zeroth))) ∙ c.if-not-begin_alike.true);
       page_is = refl;
     })))
+
+pub returns-clause-pages : goal.returns-clause-pages
+returns-clause-pages g c = λ h.
+    let same = c.in_ok-read_page.ensures.same in
+    record {
+      zeroth_is = sym (c.in_ok-read_page.ensures.bytes h);
+      first_is = sym (c.in_ok-read_page-2.ensures.bytes (same.honest ∙ h) ∙ ap (page_of 1) (same.seen h));
+    }
 
 pub returns-clause-found : goal.returns-clause-found
 returns-clause-found g c = λ h.

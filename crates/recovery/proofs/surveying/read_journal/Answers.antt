@@ -3,7 +3,7 @@ use Rattle.grid_model.specs.Images.{open_slots_of}
 use Rattle.journal_slots.specs.Scans.{IsScan, IsFirstBadPage, IsGoodUpTo}
 use Rattle.journal_slots.proofs.Refused.{same_refusal}
 use Rattle.recovery.proofs.Good.{good_second}
-use Rattle.recovery.proofs.Halves.{journal_of, scanned_good}
+use Rattle.recovery.proofs.Halves.{journal_of, journal_lawful, scanned_good}
 use Rattle.recovery.proofs.surveying.read_journal.Goals as goal
 
 pub returns-in_err-second-clause-damaged : goal.returns-in_err-second-clause-damaged
@@ -20,6 +20,10 @@ returns-in-Ok-clause-found g c = λ h.
     let second = subst (λ i. IsScan s i 1 c.args.session c.in_ok-second.second) (first.same.seen h) (c.in_ok-second.ensures.found (first.same.honest ∙ h)) in
     journal_of s (g.D.Disk.seen c.args.disk.now) c.args.session c.in_ok-first.first c.in_ok-second.second _ (first.found h) second c.in-Ok.ensures.added refl
 
+pub returns-in-Ok-clause-lawful : goal.returns-in-Ok-clause-lawful
+returns-in-Ok-clause-lawful g c =
+    journal_lawful c.args.geometry.now.shape (g.D.Disk.seen c.args.disk.now) c.args.session c.in_ok-first.first c.in_ok-second.second _ c.in_ok-first.ensures.lawful c.in_ok-second.ensures.lawful c.in-Ok.ensures.added refl
+
 pub returns-in_err-first-clause-before : goal.returns-in_err-first-clause-before
 returns-in_err-first-clause-before g c = λ h is n e. inl (c.in_err-first.ensures.before h n e)
 
@@ -32,5 +36,5 @@ returns-in_err-second-clause-before g c = λ h is n e.
     let count = first.ticks h scan.gates scan.spelled in
     let open_ones = length (open_slots_of scan.gates 0) in
     let k = n - (1 + open_ones) in
-    good_second s seen c.args.session n k c.in_ok-first.first scan (omega (arith, e, count, c.in_err-second.ensures.least))
-    (subst (λ i. IsGoodUpTo g.row.K s i 1 k) (first.same.seen h) (c.in_err-second.ensures.before (first.same.honest ∙ h) k (omega (arith, e, count, c.in_err-second.ensures.least))))
+    good_second s seen c.args.session n k c.in_ok-first.first scan (omega (arith, e, count, c.in_err-second.ensures.reads.least))
+    (subst (λ i. IsGoodUpTo g.row.K s i 1 k) (first.same.seen h) (c.in_err-second.ensures.before (first.same.honest ∙ h) k (omega (arith, e, count, c.in_err-second.ensures.reads.least))))
