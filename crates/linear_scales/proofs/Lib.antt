@@ -3,3 +3,4 @@ pub mod Meeting
 pub mod Filling
 pub mod Ranges
 pub mod Querying
+pub mod Keyed

@@ -78,7 +78,7 @@ met-at (s ∷ ss) (side ∷ sides) (n ∷ key) (suc k) d e p m f q l =
     met-at ss sides key k d e (omega (arith, p)) (second (admits side n) (pointwise admits sides key) m) (λ a. f (suc a)) (omega (arith, q)) l
 
 -- a cell's interval is one of its scale
-inside-at : (ss : List LimitedScale) (cell : List ℕ) (k : ℕ) (d : LimitedScale) → ((a : ℕ) → a < length (dims (scales_of ss)) → slice_index cell a < slice_index (dims (scales_of ss)) a) → k < length ss
+pub inside-at : (ss : List LimitedScale) (cell : List ℕ) (k : ℕ) (d : LimitedScale) → ((a : ℕ) → a < length (dims (scales_of ss)) → slice_index cell a < slice_index (dims (scales_of ss)) a) → k < length ss
     → slice_index cell k ≤ length (get_or ss k d).boundaries
 inside-at ss cell k d h p =
     let q : k < length (scales_of ss) = omega (arith, p, length-map ss (λ s. s.boundaries)) in

@@ -2,6 +2,8 @@
 ghost use Rattle.std.specs.Prelude.{◌≡◌, ◌<◌, ◌≤◌, ◌↔◌, ℕ, List, [], length, replicate, slice_index_or, IsTrue, OnOk, OnErr, IfOk, IfErr};
 ghost use Rattle.grid_types.specs.Queries.{is_straight, is_lawful, begin_of, end_of};
 ghost use Rattle.grid_types.specs.declared.query.Side.{Side};
+ghost use Rattle.grid_types.specs.Keys.{IsKey};
+ghost use Rattle.grid_types.specs.Regions.{contains, IsRegion};
 ghost use Rattle.grid_model.specs.Scales.{scale_of, refined_at};
 ghost use Rattle.grid_model.specs.Cells.{dims, cell_of, InCellBox};
 ghost use Rattle.grid_model.specs.ScaleLaws.{IsCell};
@@ -11,7 +13,7 @@ ghost use Rattle.linear_scales.specs.Sides.{Meets};
 ghost use Rattle.linear_scales.specs.Queries.{lowest_cell, highest_cell, MeetsQuery};
 
 use crate::{Scale, ScaleRefused};
-use grid_types::{CellBox, Key, Query, Side};
+use grid_types::{CellBox, Key, Query, Region, Side};
 use std::alloc::{AllocError, Global};
 use std::marker::Model;
 
@@ -88,6 +90,27 @@ fn ranges_of<const K: usize>(scales: &[Scale], sides: &[Side; K]) -> CellBox<K>
     CellBox { lo, hi }
 }
 
+/// The lowest and the highest number of the interval of each scale in a cell, as a region.
+fn bounds_of<const K: usize>(scales: &[Scale], cell: &[u32; K]) -> Region<K>
+    requires count { length scales.now ≡ K }
+    requires cell { IsCell (dims (scales_of scales.now)) cell.now }
+    ensures some { IsRegion K result }
+    ensures keys { (key : List ℕ)
+        → IsKey K key
+        → IsTrue (contains result key) ↔ (cell_of (scales_of scales.now) key ≡ cell.now) }
+{
+    let mut lo = [0; K];
+    let mut hi = [0; K];
+    for a in 0..K {
+        let scale = &scales[a];
+        let _limit = scale.limit();
+        let (low, high) = scale.bounds(cell[a]);
+        lo[a] = low;
+        hi[a] = high;
+    }
+    Region { lo, hi }
+}
+
 impl<const K: usize> Scales<K> {
     /// A scale without boundaries for each attribute. All memory for boundaries up to the limit is taken here.
     pub fn new(alloc: Global, limit: u16) -> Result<Scales<K>, AllocError>
@@ -146,6 +169,17 @@ impl<const K: usize> Scales<K> {
         ensures inside { IsCell (dims (scales_of self.now)) result }
     {
         intervals_of(&self.scales, &key.numbers)
+    }
+
+    /// The keys of a cell, as a region.
+    pub fn keys_of(&self, cell: &[u32; K]) -> Region<K>
+        requires { IsCell (dims (scales_of self.now)) cell.now }
+        ensures some { IsRegion K result }
+        ensures keys { (key : List ℕ)
+            → IsKey K key
+            → IsTrue (contains result key) ↔ (cell_of (scales_of self.now) key ≡ cell.now) }
+    {
+        bounds_of(&self.scales, cell)
     }
 
     /// The box of the cells that a query meets.
