@@ -8,7 +8,7 @@ use Rattle.grid_types.specs.Keys.{key_cmp}
 use Rattle.grid_types.specs.Queries.{matches}
 use Rattle.grid_model.specs.Listings.{rows}
 use Rattle.grid_model.specs.Tables.{Table, pair_of, pairs_of}
-use Rattle.query_paths.specs.Gathering.{many}
+use Rattle.query_paths.specs.Gathering.{most_in_cells}
 
 -- no more entries pass than there are
 pub few-pass : (p : List ℕ → Bool) (t : Table) → length (where_key key_cmp p t) ≤ length t
@@ -25,12 +25,12 @@ unfolding rows
 few-rows rs q = omega (arith, few-pass (matches q.sides) (pairs_of rs), length-map rs pair_of)
 
 -- a count that does not come near its end is exact
-pub counted-more : {K : ℕ} (rs : List (Record K)) (q : Query K) (found : Table) (before count n after : ℕ) → length found ≤ many → before ≡ length found → length rs ≡ count → count ≤ 48 → n ≡ length (rows (pairs_of rs) q)
+pub counted-more : {K : ℕ} (rs : List (Record K)) (q : Query K) (found : Table) (before count n after : ℕ) → length found ≤ most_in_cells → before ≡ length found → length rs ≡ count → count ≤ 48 → n ≡ length (rows (pairs_of rs) q)
     → after ≡ min (before + n) 18446744073709551615 → after ≡ length (found ++ rows (pairs_of rs) q)
-unfolding many
+unfolding most_in_cells
 counted-more rs q found before count n after few is c m e h = omega (arith, few, is, c, m, e, h, few-rows rs q, length-append found (rows (pairs_of rs) q))
 
 -- the buckets of the cells below an index have no more records than that
-pub few-many : (n i : ℕ) → n ≤ 48 * i → i < 1000000 → n ≤ many
-unfolding many
-few-many n i h l = omega (arith, h, l)
+pub few-in-cells : (n i : ℕ) → n ≤ 48 * i → i < 1000000 → n ≤ most_in_cells
+unfolding most_in_cells
+few-in-cells n i h l = omega (arith, h, l)

@@ -15,4 +15,5 @@ pub mod Wholly
 pub mod Queried
 pub mod Counts
 pub mod Listed
-pub mod TwoScales
+pub mod Telling
+pub mod Arriving

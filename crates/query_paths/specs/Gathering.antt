@@ -1,6 +1,6 @@
 -- How many records a walk may find.
 use Rattle.std.specs.Prelude.{ℕ}
 
--- more records than the buckets of a million cells have
-unfoldable pub many : ℕ
-many = 48000000
+-- the most records that the buckets of a million cells have, with 48 in each
+unfoldable pub most_in_cells : ℕ
+most_in_cells = 48000000

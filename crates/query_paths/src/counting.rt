@@ -8,6 +8,7 @@ ghost use Rattle.grid_model.specs.Listings.{rows};
 ghost use Rattle.grid_model.specs.Tables.{Table};
 ghost use Rattle.query_paths.specs.Pinned.{IsPinnedTo, MakesSteps};
 ghost use Rattle.query_paths.specs.Calls.{place, LeavesPlace};
+ghost use Rattle.query_paths.specs.Rooms.{room_for, part_bytes, bucket_bytes};
 ghost use Rattle.query_paths.specs.Paths.{AreJudged, HasQueryCause, pages_of_query};
 
 use crate::gathering::Tally;
@@ -27,7 +28,7 @@ pub fn count_rows<const K: usize, Q: Pinned<K>, L: Ledger>(
 ) -> Result<u64, Refusal>
     requires few { K ≤ MOST_ATTRIBUTES }
     requires lawful { IsTrue (is_lawful query.now.sides) }
-    requires within { All (λ n. n < length room.old.marks) (Q.numbers pinned.old) }
+    requires within { All (λ n. n < room_for room.old) (Q.numbers pinned.old) }
     ensures answer { (L : Layout K) (t : Table)
         → IsPinnedTo (place Q.Pinned pinned.old) L t
         → IfOk result (λ n. n ≡ length (rows t query.now)) }
@@ -35,13 +36,13 @@ pub fn count_rows<const K: usize, Q: Pinned<K>, L: Ledger>(
         → IsPinnedTo (place Q.Pinned pinned.old) L t
         → IfErr result (λ e. e ≡ ReadFault) }
     ensures cause { HasQueryCause K false (place Q.Pinned pinned.old) query.now.sides
-        room.new.part.value room.new.bucket.value
+        (part_bytes room.new) (bucket_bytes room.new)
         (Q.faults pinned.old) (Q.faults pinned.new) result }
     ensures reads { (L : Layout K) (t : Table)
         → IsPinnedTo (place Q.Pinned pinned.old) L t
         → MakesSteps (pages_of_query L query.now) steps.old steps.new result }
     ensures judged { OnOk result (AreJudged K (place Q.Pinned pinned.old) query.now.sides) }
-    ensures marks { length room.new.marks ≡ length room.old.marks }
+    ensures marks { room_for room.new ≡ room_for room.old }
     ensures same { LeavesPlace Q.Pinned pinned.old pinned.new }
 {
     let _sides = counted(&query.sides);

@@ -4,7 +4,7 @@ ghost use Rattle.grid_types.specs.declared.sizes.TheConstants.{MOST_ATTRIBUTES, 
 ghost use Rattle.grid_model.specs.Listings.{rows};
 ghost use Rattle.grid_model.specs.Tables.{Table, pairs_of};
 ghost use Rattle.bucket_page.specs.OnPage.{OfBucket};
-ghost use Rattle.query_paths.specs.Gathering.{many};
+ghost use Rattle.query_paths.specs.Gathering.{most_in_cells};
 
 use bucket_page::{count_matching, push_matching};
 use grid_types::{PAGE_BYTES, Query, Rows};
@@ -28,7 +28,7 @@ pub trait Gather<const K: usize> {
         requires many { count ≤ MOST_RECORDS }
         requires few { K ≤ MOST_ATTRIBUTES }
         ensures gathered { (found : Table)
-            → length found ≤ many
+            → length found ≤ most_in_cells
             → holds self.old found
             → OfBucket K page.now count
             (λ b. OnOk result (holds self.new (found ++ rows (pairs_of b.rows) query.now))) }

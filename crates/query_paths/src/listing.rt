@@ -7,6 +7,7 @@ ghost use Rattle.grid_model.specs.Listings.{rows};
 ghost use Rattle.grid_model.specs.Tables.{Table, pairs_of};
 ghost use Rattle.query_paths.specs.Pinned.{IsPinnedTo, MakesSteps};
 ghost use Rattle.query_paths.specs.Calls.{place, LeavesPlace};
+ghost use Rattle.query_paths.specs.Rooms.{room_for, part_bytes, bucket_bytes};
 ghost use Rattle.query_paths.specs.Paths.{AreJudged, HasQueryCause, IsFaultOrLack, pages_of_query};
 
 use crate::gathering::Listing;
@@ -28,7 +29,7 @@ pub fn list_rows<const K: usize, Q: Pinned<K>, L: Ledger>(
 ) -> Result<Rows<K>, Refusal>
     requires few { K ≤ MOST_ATTRIBUTES }
     requires lawful { IsTrue (is_lawful query.now.sides) }
-    requires within { All (λ n. n < length room.old.marks) (Q.numbers pinned.old) }
+    requires within { All (λ n. n < room_for room.old) (Q.numbers pinned.old) }
     ensures answer { (L : Layout K) (t : Table)
         → IsPinnedTo (place Q.Pinned pinned.old) L t
         → IfOk result (λ r. pairs_of r ≡ rows t query.now) }
@@ -36,13 +37,13 @@ pub fn list_rows<const K: usize, Q: Pinned<K>, L: Ledger>(
         → IsPinnedTo (place Q.Pinned pinned.old) L t
         → IfErr result IsFaultOrLack }
     ensures cause { HasQueryCause K true (place Q.Pinned pinned.old) query.now.sides
-        room.new.part.value room.new.bucket.value
+        (part_bytes room.new) (bucket_bytes room.new)
         (Q.faults pinned.old) (Q.faults pinned.new) result }
     ensures reads { (L : Layout K) (t : Table)
         → IsPinnedTo (place Q.Pinned pinned.old) L t
         → MakesSteps (pages_of_query L query.now) steps.old steps.new result }
     ensures judged { OnOk result (AreJudged K (place Q.Pinned pinned.old) query.now.sides) }
-    ensures marks { length room.new.marks ≡ length room.old.marks }
+    ensures marks { room_for room.new ≡ room_for room.old }
     ensures same { LeavesPlace Q.Pinned pinned.old pinned.new }
 {
     let _sides = counted(&query.sides);

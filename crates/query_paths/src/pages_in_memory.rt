@@ -1,10 +1,7 @@
 //! A directory page and bucket pages in memory, for the tests.
-ghost use Rattle.std.specs.Prelude.{◌<◌, ◌≤◌, length};
-ghost use Rattle.grid_types.specs.Keys.{top};
+ghost use Rattle.std.specs.Prelude.{◌≡◌, ◌<◌, ◌≤◌, [], ◌∷◌};
 ghost use Rattle.grid_model.specs.Cells.{dims};
-ghost use Rattle.grid_cells.specs.Dims.{IsDims};
 ghost use Rattle.linear_scales.specs.Limited.{scales_of};
-ghost use Rattle.query_paths.specs.InMemory.{HasEnds};
 
 use crate::Pinned;
 use arrayvec::ArrayVec;
@@ -12,23 +9,27 @@ use bucket_page::Bucket;
 use disk_trait::{DiskFailed, Steps};
 use grid_cells::Dims;
 use grid_types::{CellBox, Data, Key, PAGE_BYTES, Query, Record, Region};
-use linear_scales::{Scale, Scales};
+use linear_scales::Scales;
 use std::alloc::{AllocError, Global};
 use std::sync::ledger::Ledger;
 
-/// The pages of one directory part and of the buckets 0 to 3. It counts its readings.
+/// The pages of a directory part of four cells, and of so many buckets, four at most. It counts its readings.
 #[derive(Drop)]
 pub struct Pages {
     scales: Scales<2>,
     pub directory: [u8; PAGE_BYTES],
     pub buckets: [[u8; PAGE_BYTES]; 4],
+    count: u32,
     pub reads: u32,
-    ghost lawful: { IsDims (dims (scales_of scales)) },
+    ghost four: { dims (scales_of scales) ≡ 2 ∷ 2 ∷ [] },
+    ghost few: { count ≤ 4 },
 }
 
 impl Pages {
-    /// Pages of a directory with the boundaries 5 and 4, whose four cells name these buckets. No bucket is written.
-    pub fn new(alloc: Global, names: &[u32; 4]) -> Result<Option<Pages>, AllocError> {
+    /// Pages of a directory with the boundaries 5 and 4, whose four cells name these of so many buckets. No bucket is written.
+    pub fn new(alloc: Global, names: &[u32; 4], count: u32) -> Result<Option<Pages>, AllocError>
+        requires { count ≤ 4 }
+    {
         let mut scales = Scales::new(alloc, 1000)?;
         let _first = scales.refine(0, 5);
         let _second = scales.refine(1, 4);
@@ -42,6 +43,7 @@ impl Pages {
             scales,
             directory,
             buckets: [[7; PAGE_BYTES]; 4],
+            count,
             reads: 0,
         }))
     }
@@ -68,30 +70,19 @@ impl Pages {
     }
 }
 
-/// The lowest and the highest number of an interval.
-fn ends(scale: &Scale, i: u32) -> (u64, u64)
-    requires { i ≤ length scale.now.boundaries }
-    ensures some { result.0 ≤ result.1 }
-    ensures high { result.1 ≤ top }
-    ensures contain { HasEnds scale.now.boundaries i result.0 result.1 }
-{
-    let _limit = scale.limit();
-    scale.bounds(i)
-}
-
 impl Pinned<2> for Pages {
-    ghost use Rattle.std.specs.Prelude.{None};
+    ghost use Rattle.std.specs.Prelude.{Some, take};
     ghost use Rattle.grid_model.specs.Lists.{below};
     ghost use Rattle.linear_scales.specs.Limited.{scales_of};
-    ghost use Rattle.query_paths.specs.InMemory.{page_in_memory};
+    ghost use Rattle.query_paths.specs.InMemory.{given_in_memory, page_in_memory};
 
     ghost shape = { λ p. record { k = 2; capacity = 2; pages = 64; slots = 8; boundaries = 1000; cells = 1000 } };
 
     ghost scales = { λ p. scales_of p.scales };
 
-    ghost numbers = { λ p. below 4 };
+    ghost numbers = { λ p. below p.count };
 
-    ghost pages = { λ p. None };
+    ghost pages = { λ p. Some (given_in_memory p.directory (take p.count p.buckets)) };
 
     ghost file_page = { λ p. page_in_memory };
 
@@ -118,12 +109,7 @@ impl Pinned<2> for Pages {
     }
 
     fn keys_of(&self, cell: &[u32; 2]) -> Region<2> {
-        let first = ends(self.scales.scale(0), cell[0]);
-        let second = ends(self.scales.scale(1), cell[1]);
-        Region {
-            lo: [first.0, second.0],
-            hi: [first.1, second.1],
-        }
+        self.scales.keys_of(cell)
     }
 
     fn read_part<L: Ledger>(
@@ -144,7 +130,7 @@ impl Pinned<2> for Pages {
         page: &mut [u8; PAGE_BYTES],
         steps: &mut Steps<L>,
     ) -> Result<Option<u32>, DiskFailed> {
-        if number >= 4 {
+        if number >= self.count {
             return Ok(None);
         }
         page.copy_from_slice(&self.buckets[number as usize]);

@@ -15,16 +15,18 @@ pub struct Held {
 /// A page for a directory part, a page for a bucket, and a mark for each bucket number. The pages are never cleared.
 #[derive(Drop)]
 pub struct Room<const K: usize> {
-    pub part: Box<[u8; PAGE_BYTES]>,
-    pub bucket: Box<[u8; PAGE_BYTES]>,
-    pub held: Option<Held>,
-    pub marks: Marks,
+    pub(crate) part: Box<[u8; PAGE_BYTES]>,
+    pub(crate) bucket: Box<[u8; PAGE_BYTES]>,
+    pub(crate) held: Option<Held>,
+    pub(crate) marks: Marks,
 }
 
 impl<const K: usize> Room<K> {
+    ghost use Rattle.query_paths.specs.Rooms.{room_for};
+
     /// Room for the buckets of lower numbers than that.
     pub fn new(alloc: Global, buckets: u32) -> Result<Room<K>, AllocError>
-        ensures { IfOk result (λ r. length r.marks ≡ buckets) }
+        ensures { IfOk result (λ r. room_for r ≡ buckets) }
     {
         let part = Box::new(alloc, [0; PAGE_BYTES])?;
         let bucket = Box::new(alloc, [0; PAGE_BYTES])?;

@@ -13,7 +13,7 @@ const TOP: u64 = u64::MAX;
 
 /// The pages after the puts 3,7 and 5,1 and 9,9 and 6,4 and 1,1 and 2,9: each cell has a bucket.
 fn four(alloc: Global) -> Result<Option<Pages>, AllocError> {
-    let Some(mut pages) = Pages::new(alloc, &[3, 0, 1, 2])? else {
+    let Some(mut pages) = Pages::new(alloc, &[3, 0, 1, 2], 4)? else {
         return Ok(None);
     };
     pages.put(0, [0, 4], [4, TOP], &[([2, 9], 6), ([3, 7], 1)]);
@@ -23,13 +23,13 @@ fn four(alloc: Global) -> Result<Option<Pages>, AllocError> {
     Ok(Some(pages))
 }
 
-/// Pages in which two cells share the bucket 0, and two the bucket 2.
+/// Pages in which two cells share the bucket 0, and two the bucket 1.
 fn shared(alloc: Global) -> Result<Option<Pages>, AllocError> {
-    let Some(mut pages) = Pages::new(alloc, &[0, 0, 2, 2])? else {
+    let Some(mut pages) = Pages::new(alloc, &[0, 0, 1, 1], 2)? else {
         return Ok(None);
     };
     pages.put(0, [0, 0], [4, TOP], &[([1, 1], 5), ([3, 7], 1)]);
-    pages.put(2, [5, 0], [TOP, TOP], &[([6, 4], 4), ([9, 9], 3)]);
+    pages.put(1, [5, 0], [TOP, TOP], &[([6, 4], 4), ([9, 9], 3)]);
     Ok(Some(pages))
 }
 
