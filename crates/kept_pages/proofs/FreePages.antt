@@ -51,7 +51,7 @@ exact-free : {K : ℕ} (shape : Shape) (states : List PageState) (always : List 
     → count_by is_free (map (freed (is_gone (root ∷ []))) states) ≡ free shape s
 exact-free shape states always front root s counted none = omega (arith, all-pages shape states always front root s counted, none)
 
-all-fit : {K : ℕ} (shape : Shape) (states : List PageState) (always : List (Option (List ℕ))) (front root : ℕ) (s : State K) → AreCounted shape states always front root s → length s.layout.boxes + parts s.layout.scales + s.kept ≤ shape.pages
+all-fit : {K : ℕ} (shape : Shape) (states : List PageState) (always : List (Option (List ℕ))) (front root : ℕ) (s : State K) → AreCounted shape states always front root s → length s.layout.boxes + parts s.layout.scales + s.kept + count_by is_claimed states ≤ shape.pages
 all-fit shape states always front root s counted = omega (arith, all-pages shape states always front root s counted)
 
 -- a page that goes where more places are kept goes where one of them is

@@ -41,9 +41,9 @@ pub record AreCounted {K : ℕ} (shape : Shape) (states : List PageState) (alway
   pub size : length states ≡ shape.pages
   pub counts : CountsRoot states front root s
 
--- boxes, directory parts and the pages that a root keeps are data pages; after a sweep that keeps the root's place alone the free pages are as many as a lone caller counts, where none is claimed; after any sweep that keeps it they are at most as many; and a newer root would free a page exactly where the older one keeps one
+-- boxes, directory parts, the pages that a root keeps and the claimed ones are data pages; after a sweep that keeps the root's place alone the free pages are as many as a lone caller counts, where none is claimed; after any sweep that keeps it they are at most as many; and a newer root would free a page exactly where the older one keeps one
 pub record FreeCount (K : ℕ) : Type 0 where
-  pub fit : (shape : Shape) (states : List PageState) (always : List (Option (List ℕ))) (front root : ℕ) (s : State K) → AreCounted shape states always front root s → length s.layout.boxes + parts s.layout.scales + s.kept ≤ shape.pages
+  pub fit : (shape : Shape) (states : List PageState) (always : List (Option (List ℕ))) (front root : ℕ) (s : State K) → AreCounted shape states always front root s → length s.layout.boxes + parts s.layout.scales + s.kept + count_by is_claimed states ≤ shape.pages
   pub exact : (shape : Shape) (states : List PageState) (always : List (Option (List ℕ))) (front root : ℕ) (s : State K) → AreCounted shape states always front root s → count_by is_claimed states ≡ 0 → count_by is_free (swept (root ∷ []) states) ≡ free shape s
   pub most : (shape : Shape) (states : List PageState) (always : List (Option (List ℕ))) (front root : ℕ) (s : State K) (places : List ℕ) → Contains places root → AreCounted shape states always front root s → count_by is_free (swept places states) ≤ free shape s
   pub would_free : (states : List PageState) (front root : ℕ) (s : State K) → CountsRoot states front root s → list_any (is_of_roots [] (root ∷ [])) states ≡ nat_lt 0 s.kept
