@@ -21,7 +21,7 @@ use Rattle.page_states.specs.Current.{TellsPages}
 use Rattle.page_states.specs.Changes.{ArePublishable}
 use Rattle.page_states.specs.Effects.{free_pages, claim_all, given_back, swept}
 use Rattle.history_pages.specs.KnownPages.{settle_page, ask_nothing, AreaHolds}
-use Rattle.layout_pages.specs.Holding.{HoldLayout, IsCurrentAt, NamesCurrent, named_by, is_live}
+use Rattle.layout_pages.specs.Holding.{HoldLayout, NamesCurrent, named_by, is_live}
 use Rattle.layout_pages.specs.Steps.{opened_states, published_states, owners_renewed, gone_pages}
 
 -- these data pages read as pages that were written, each in its place

@@ -1,5 +1,5 @@
 -- What becomes of the states of data pages when a file is opened, when a change is published, and when pages are swept.
-use Rattle.std.specs.Prelude.{ℕ, Bool, false, List, [], ◌∷◌, ◌++◌, map, filter, length, max, min, replicate, slice_get, slice_index}
+use Rattle.std.specs.Prelude.{ℕ, false, List, [], ◌∷◌, ◌++◌, map, filter, length, max, min, replicate, slice_get, slice_index}
 use Rattle.std.specs.Option.{option_map_or}
 use Rattle.grid_types.specs.declared.layout_change.LayoutChange.{LayoutChange}
 use Rattle.grid_types.specs.declared.layout_change.LayoutChange.TheVariants as note
