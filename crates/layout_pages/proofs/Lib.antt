@@ -6,3 +6,6 @@ pub mod Sweeps
 pub mod Claiming
 pub mod Publishing
 pub mod Staying
+pub mod Ordered
+pub mod Vanishing
+pub mod Changing
