@@ -9,3 +9,6 @@ pub mod Staying
 pub mod Ordered
 pub mod Vanishing
 pub mod Changing
+pub mod Areas
+pub mod Current
+pub mod Copying

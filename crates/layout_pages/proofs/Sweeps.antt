@@ -48,7 +48,7 @@ module _ (places : List ℕ) (states : List PageState) where
   swept-at q x has = slice_get-map (freed (is_gone places)) states q ∙ ap (option_map (freed (is_gone places))) has
 
 -- a replaced page shows nothing at the front
-replaced-unseen : (o : Owner) (front : ℕ) (x : PageState) → is_replaced x ≡ true → ((w : Owner) (from to : ℕ) → x ≡ Live w from (Some to) → to ≤ front) → shows o front x ≡ false
+pub replaced-unseen : (o : Owner) (front : ℕ) (x : PageState) → is_replaced x ≡ true → ((w : Owner) (from to : ℕ) → x ≡ Live w from (Some to) → to ≤ front) → shows o front x ≡ false
 replaced-unseen o front Free is ended = refl
 replaced-unseen o front (Claimed s) is ended = refl
 replaced-unseen o front (Live w from None) is ended = absurd (true≢false (sym is))
