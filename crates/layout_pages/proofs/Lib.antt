@@ -12,3 +12,7 @@ pub mod Changing
 pub mod Areas
 pub mod Current
 pub mod Copying
+pub mod Distinct
+pub mod Beginning
+pub mod NamedOwners
+pub mod Opening
