@@ -1,5 +1,5 @@
 -- When a change is published whose new pages were written, pages hold the layout and the table after it.
-use Rattle.std.proofs.Common.{◌≡◌, ◌<◌, ◌+◌, ℕ, zero, suc, Bool, true, cond, List, [], ◌∷◌, map, fold, length, Option, Some, None, is_some, IsSome, refl, sym, ap, subst, ◌∙◌, arith, true≢false}
+use Rattle.std.proofs.Common.{◌≡◌, ◌<◌, ◌+◌, ℕ, Bool, true, cond, List, [], map, fold, length, Option, Some, None, is_some, sym, ap, subst, ◌∙◌, arith}
 use Rattle.std.specs.Prelude.{slice_get, slice_index, slice_index_or}
 use Rattle.std.specs.Option.{option_map, unwrap_or}
 use Rattle.std.proofs.lemmas.List.{length-map}
@@ -30,21 +30,11 @@ use Rattle.layout_pages.specs.HoldingLaws.{ReadAs}
 use Rattle.layout_pages.specs.Steps.{publications, owners_renewed, owners_vanishing, published_states}
 use Rattle.layout_pages.proofs.Live.{shown-live, publishable-apart, same-bytes, known-bytes, published-live, vanishings-live}
 use Rattle.layout_pages.proofs.Ordered.{is_one_of, ordered-has, one-at, with-their-pages}
+use Rattle.layout_pages.proofs.Present.{there, some-at}
 use Rattle.layout_pages.proofs.Publishing.{all-pages, all-owners, published-at}
 use Rattle.layout_pages.proofs.Serving.{other-bytes, other-content}
 use Rattle.layout_pages.proofs.Vanishing.{renews-owners, renewed_page, vanish}
 use Rattle.layout_pages.proofs.Writes.{written, beside, within, map-written, same-written}
-
--- of a page that is there the bytes are themselves
-there : (o : Option (List ℕ)) → IsSome o → Some (unwrap_or o []) ≡ o
-there None some = absurd (true≢false (sym some))
-there (Some x) some = refl
-
--- an index of a list has an element
-some-at : {X : Type 0} (xs : List X) (i : ℕ) → i < length xs → (x : X) × (slice_get xs i ≡ Some x)
-some-at [] i low = absurd (omega (arith, low))
-some-at (x ∷ xs) zero low = (x, refl)
-some-at (x ∷ xs) (suc i) low = some-at xs i (omega (arith, low))
 
 module _ {K : ℕ} (shape : Shape) (L : Layout K) (t : Table) (u : Update K) (n : LayoutChange) (e : ℕ × BucketBox K) (states : List PageState) (always fresh : List (Option (List ℕ))) (front : ℕ) (pages : List ℕ) (h : IsChange shape L t u n e)
     (hold : HoldLayout states always front L t) (ok : ArePublishable pages states) (read : ReadAs fresh pages (new_pages L t u n e)) where
@@ -113,7 +103,7 @@ module _ {K : ℕ} (shape : Shape) (L : Layout K) (t : Table) (u : Update K) (n 
       let settled : slice_get later x.page ≡ Some (slice_index_or fresh x.page None) = within (λ q. slice_index_or fresh q None) always pages x.page among (omega (arith, inside, is, many)) in
       let owned : has_owner (renewed L e n) x.owner ≡ true = sym (ordered-has (renewed L e n) x.owner) ∙ ap (λ (os : List Owner). is_one_of os x.owner) (renews-owners L e n) ∙ one-at order i x.owner at.0 in
       ap (λ (b : List ℕ). Some b) (known-bytes later x.page (unwrap_or (page_after L t u n e x.owner) []) (settled ∙ ap (λ (o : Option (List ℕ)). Some o) (reads-as i x has)))
-      ∙ there (page_after L t u n e x.owner) (new-page shape L t u n e x.owner h owned)
+      ∙ there (page_after L t u n e x.owner) [] (new-page shape L t u n e x.owner h owned)
 
   -- the content behind the publications
   content-renewed : (o : Owner) → with_pages (owner_page L t) (bytes_in later) published o ≡ renewed_page shape L t u n e o

@@ -26,15 +26,7 @@ use Rattle.layout_pages.specs.HoldingLaws.{TellsCurrent}
 use Rattle.layout_pages.proofs.Areas.{numbered-entry, entry-numbered, each-named}
 use Rattle.layout_pages.proofs.Current.{HasPage, current-page, no-page, has-current}
 use Rattle.layout_pages.proofs.Live.{live-known}
-
--- what is there is something
-value-of : (o : Option (List ℕ)) → IsSome o → (b : List ℕ) × (o ≡ Some b)
-value-of None some = absurd (true≢false (sym some))
-value-of (Some b) some = (b, refl)
-
-nothing-of : (o : Option (List ℕ)) → is_some o ≡ false → o ≡ None
-nothing-of None none = refl
-nothing-of (Some b) none = absurd (true≢false none)
+use Rattle.layout_pages.proofs.Present.{value-of, nothing-of}
 
 module _ {K : ℕ} (s : Shape) (a : Area) (states : List PageState) (always : List (Option (List ℕ))) (front : ℕ) (L : Layout K) (t : Table) (stands : StandsOver s L t) (many : length states ≡ s.pages) (hold : HoldLayout states always front L t)
     (tells : TellsCurrent states L a) where
@@ -48,11 +40,7 @@ module _ {K : ℕ} (s : Shape) (a : Area) (states : List PageState) (always : Li
   low-number n b there = let low = stands.sound.below_pages n b there in omega (arith, low, many, tells.numbers)
 
   bucket-low : (n : ℕ) → is_some (box L n) ≡ true → n < length a.table
-  bucket-low n some = by (box L n) refl some
-    where
-      by : (o : Option (BucketBox K)) → box L n ≡ o → is_some o ≡ true → n < length a.table
-      by None e g = absurd (true≢false (sym g))
-      by (Some b) e g = low-number n b e
+  bucket-low n some = let v = value-of (box L n) some in low-number n v.0 v.1
 
   told : (o : Owner) (b : List ℕ) (is : owner_page L t o ≡ Some b) → page_named a o ≡ (current o b is).page
   told (Bucket n) b is =

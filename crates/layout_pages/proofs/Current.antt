@@ -6,6 +6,7 @@ use Rattle.std.proofs.lemmas.Bool.{le-leb}
 use Rattle.std.proofs.lemmas.List.Sums.{sum_by-cons}
 use Rattle.grid_types.specs.declared.owner.Owner.{Owner}
 use Rattle.grid_types.specs.Owners.{same_owner}
+use Rattle.grid_types.proofs.Numbers.{first}
 use Rattle.page_states.specs.declared.page_state.PageState.{PageState}
 use Rattle.page_states.specs.declared.page_state.PageState.TheVariants.{Free, Claimed, Live}
 use Rattle.page_states.specs.Counts.{once}
@@ -42,10 +43,6 @@ shown-current o front Free shown ended = absurd (true≢false (sym shown))
 shown-current o front (Claimed s) shown ended = absurd (true≢false (sym shown))
 shown-current o front (Live w from (Some to)) shown ended = absurd (true≢false (sym shown ∙ replaced-unseen o front (Live w from (Some to)) refl ended))
 shown-current o front (Live w from None) shown ended = (from, ap (λ (z : Owner). Live z from None) (same_owner_is w o (first (same_owner w o) (is_current_at front (Live w from None)) shown)))
-  where
-    first : (a b : Bool) → (a && b) ≡ true → a ≡ true
-    first true b e = refl
-    first false b e = absurd (true≢false (sym e))
 
 module _ (content : Owner → Option (List ℕ)) (bytes : ℕ → List ℕ) (front : ℕ) (states : List PageState) (settled : Settled front states) (served : Serves content bytes front states) where
   -- an owner that has a page has a current one, which holds it

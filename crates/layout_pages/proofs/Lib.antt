@@ -1,4 +1,5 @@
 pub mod Among
+pub mod Present
 pub mod Writes
 pub mod Live
 pub mod Serving

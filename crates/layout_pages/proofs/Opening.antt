@@ -1,5 +1,5 @@
 -- Where a file is opened, the pages that its newest root names hold the root's layout and table.
-use Rattle.std.proofs.Common.{◌≡◌, ◌⊎◌, inl, inr, ◌<◌, ◌≤◌, ℕ, Bool, true, false, cond, List, [], ◌∷◌, map, replicate, length, Option, Some, None, is_some, IsSome, refl, sym, ap, subst, ◌∙◌, arith, true≢false, lt-ltb}
+use Rattle.std.proofs.Common.{◌≡◌, ◌⊎◌, inl, inr, ◌<◌, ◌≤◌, ℕ, Bool, true, false, cond, List, [], ◌∷◌, map, replicate, length, Option, Some, None, is_some, refl, sym, ap, subst, ◌∙◌, arith, lt-ltb}
 use Rattle.std.specs.Prelude.{slice_get, slice_index}
 use Rattle.std.specs.Option.{option_map}
 use Rattle.std.proofs.lemmas.Bool.{cases_lt}
@@ -40,13 +40,9 @@ use Rattle.layout_pages.proofs.Distinct.{swapped-once, swapped-among, named-page
 use Rattle.layout_pages.proofs.Live.{known-bytes, published-live}
 use Rattle.layout_pages.proofs.NamedOwners.{named-for, named-owners}
 use Rattle.layout_pages.proofs.Ordered.{is_one_of, owners_of, ordered-has, one-at, with-their-pages}
+use Rattle.layout_pages.proofs.Present.{value-of, nothing-of}
 use Rattle.layout_pages.proofs.Serving.{other-content}
 use Rattle.layout_pages.proofs.Writes.{written, beside, within, length-written}
-
--- what is there is something
-value-of : (o : Option (List ℕ)) → IsSome o → (b : List ℕ) × (o ≡ Some b)
-value-of None some = absurd (true≢false (sym some))
-value-of (Some b) some = (b, refl)
 
 module _ {K : ℕ} (s : Shape) (w : WholeRoot) (always : List (Option (List ℕ))) (L : Layout K) (t : Table) (area : IsAreaOf s w.fields w.area) (holds : AreaHolds always w.area L t) where
   abbrev start : List PageState
@@ -98,11 +94,7 @@ module _ {K : ℕ} (s : Shape) (w : WholeRoot) (always : List (Option (List ℕ)
 
   opened-holds : Serves (owner_page L t) (bytes_in always) w.fields.front (opened_states s.pages w.fields.front w.area)
   opened-holds = opened-serves (bytes_in always) (owner_page L t)
-      (λ o some. let v = value-of (owner_page L t o) some in ap (λ (b : List ℕ). Some b) (known-bytes always (page_named w.area o) v.0 (holds.pages o v.0 v.1)) ∙ sym v.1) (λ o none. nothing (owner_page L t o) none)
-    where
-      nothing : (o : Option (List ℕ)) → is_some o ≡ false → o ≡ None
-      nothing None e = refl
-      nothing (Some b) e = absurd (true≢false e)
+      (λ o some. let v = value-of (owner_page L t o) some in ap (λ (b : List ℕ). Some b) (known-bytes always (page_named w.area o) v.0 (holds.pages o v.0 v.1)) ∙ sym v.1) (λ o none. nothing-of (owner_page L t o) none)
 
   -- the page that is named for an owner is its current one: it is told by a content that says the page's number
   abbrev number_of_page : Owner → Option (List ℕ)

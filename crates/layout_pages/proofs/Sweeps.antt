@@ -1,5 +1,5 @@
 -- A sweep frees replaced pages alone, so what pages hold at the front stays.
-use Rattle.std.proofs.Common.{◌≡◌, ◌≤◌, ◌<◌, ℕ, Bool, true, false, ◌&&◌, cond, List, map, fold, length, Option, Some, None, is_some, refl, sym, ap, ◌∙◌, arith, true≢false}
+use Rattle.std.proofs.Common.{◌≡◌, ◌≤◌, ◌<◌, ℕ, Bool, true, false, ◌&&◌, cond, List, map, not, fold, length, Option, Some, None, is_some, refl, sym, ap, ◌∙◌, arith, true≢false}
 use Rattle.std.specs.Prelude.{slice_get, nat_le}
 use Rattle.std.specs.Option.{option_map, option_map_or}
 use Rattle.std.proofs.lemmas.Bool.{le-ltb}
@@ -7,6 +7,7 @@ use Rattle.std.proofs.lemmas.List.{length-map}
 use Rattle.std.proofs.lemmas.Option.{slice_get-map, slice_get_within, same_Some}
 use Rattle.grid_types.specs.declared.owner.Owner.{Owner}
 use Rattle.grid_types.specs.Owners.{same_owner}
+use Rattle.grid_types.proofs.Numbers.{first}
 use Rattle.grid_model.specs.Lists.{below, is_among}
 use Rattle.grid_model.specs.Tables.{Table}
 use Rattle.grid_model.specs.Layouts.{Layout}
@@ -17,7 +18,7 @@ use Rattle.history_pages.specs.KnownPages.{ask_nothing}
 use Rattle.page_states.specs.declared.page_state.PageState.{PageState}
 use Rattle.page_states.specs.declared.page_state.PageState.TheVariants.{Free, Claimed, Live}
 use Rattle.page_states.specs.Counts.{once, once_at}
-use Rattle.page_states.specs.States.{shows, is_replaced}
+use Rattle.page_states.specs.States.{shows, is_replaced, is_kept}
 use Rattle.page_states.specs.Effects.{freed, is_gone, swept}
 use Rattle.page_states.specs.Laws.{Keeps}
 use Rattle.page_states.proofs.Lists.{same_by_get}
@@ -55,10 +56,6 @@ replaced-unseen o front (Live w from None) is ended = absurd (true≢false (sym 
 replaced-unseen o front (Live w from (Some to)) is ended =
     ap (λ (b : Bool). same_owner w o && (nat_le from front && b)) (le-ltb front to (ended w from to refl))
     ∙ ap (λ (b : Bool). same_owner w o && b) (and_false (nat_le from front)) ∙ and_false (same_owner w o)
-
-first-holds : (a b : Bool) → (a && b) ≡ true → a ≡ true
-first-holds true b e = refl
-first-holds false b e = absurd (true≢false (sym e))
 
 module _ {K : ℕ} (states : List PageState) (always : List (Option (List ℕ))) (front : ℕ) (L : Layout K) (t : Table) (places : List ℕ) (h : HoldLayout states always front L t) where
   abbrev left : List (Option (List ℕ))
@@ -104,7 +101,7 @@ module _ {K : ℕ} (states : List PageState) (always : List (Option (List ℕ)))
       alike x e false g = ap (λ (b : Bool). shows o front (cond b Free x)) g
       alike x e true g =
           ap (λ (b : Bool). shows o front (cond b Free x)) g
-          ∙ sym (replaced-unseen o front x (first-holds (is_replaced x) _ g) (λ w from to is. h.settled.ended_by q w from to (e ∙ ap (λ (z : PageState). Some z) is)))
+          ∙ sym (replaced-unseen o front x (first (is_replaced x) (not (is_kept places x)) g) (λ w from to is. h.settled.ended_by q w from to (e ∙ ap (λ (z : PageState). Some z) is)))
 
       by : (m : Option PageState) → slice_get states q ≡ m → option_map_or (once (shows o front)) (option_map (freed (is_gone places)) m) 0 ≡ option_map_or (once (shows o front)) m 0
       by None e = refl

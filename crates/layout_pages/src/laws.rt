@@ -6,8 +6,8 @@ pub fn opening_law<const K: usize>()
     ensures { OpeningHolds K }
 {}
 
-/// The law of changes: once the new pages of a change are on the disk, its publication leaves pages that hold the layout
-/// and the table after it.
+/// The law of changes: the owners that a change renews are those that the model says, in the order in which their pages
+/// are written; and once these are on the disk, its publication leaves pages that hold the layout and the table after it.
 pub fn change_law<const K: usize>()
     ensures owners { RenewsOwners K }
     ensures holds { ChangeHolds K }
@@ -18,14 +18,15 @@ pub fn step_law<const K: usize>()
     ensures { StepsHold K }
 {}
 
-/// The law of named pages: those that a table area names stay current at a kept place, and none of them is freed, free or
-/// claimed.
+/// The law of named pages: those that a table area names stay current at a place that is kept, and none of them is freed,
+/// free or claimed.
 pub fn named_law()
     ensures stay { NamedStay }
     ensures apart { NamedApart }
 {}
 
-/// The law of copies: a table area that tells the current pages names those that hold the layout and the table.
+/// The law of copies: a table area that tells the current pages names those that hold the layout and the table, and these
+/// are current at the front.
 pub fn copy_law<const K: usize>()
     ensures { CopyHolds K }
 {}
