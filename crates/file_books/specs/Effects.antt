@@ -9,18 +9,15 @@ use Rattle.grid_model.specs.Cells.{dims}
 use Rattle.grid_model.specs.Notes.{scales_after}
 use Rattle.grid_model.specs.Roots.{WholeRoot}
 use Rattle.directory_changes.specs.Changes.{IsChangeOf, parts_changed}
+use Rattle.directory_changes.specs.Fresh.{IsFreshFor}
 use Rattle.directory_changes.specs.declared.change.DirectoryChange.{DirectoryChange}
 use Rattle.directory_changes.specs.declared.change.DirectoryChange.TheVariants.{Nothing, Patch, Grow}
 use Rattle.page_states.specs.Changes.{ArePublishable}
 use Rattle.page_states.specs.Effects.{swept}
 use Rattle.layout_pages.specs.Steps.{opened_states, owners_renewed, published_states}
+use Rattle.file_books.specs.declared.record_change.RecordChange.{RecordChange}
+use Rattle.file_books.specs.declared.record_change.RecordChange.TheVariants.{More, Same, Fewer}
 use Rattle.file_books.specs.Books.{Books, has_page, AreScalesOf}
-
--- what an update does to the number of records: one more, the same, or one fewer
-pub data RecordChange : Type 0 where
-  More : RecordChange
-  Same : RecordChange
-  Fewer : RecordChange
 
 -- the number of records after an update; what buckets can't hold is not counted
 abbrev pub records_after : ℕ → ℕ → RecordChange → ℕ
@@ -88,19 +85,26 @@ AreOfOneKind (note.Cut c right) (Patch cells bucket) = IsTrue (not c.fresh)
 AreOfOneKind (note.Merge m) (Patch cells bucket) = ⊤
 AreOfOneKind _ _ = ⊥
 
+-- a cut at a boundary that is called fresh for these scales is at none of them
+abbrev pub NotesFresh : List (List ℕ) → LayoutChange → Type 0
+NotesFresh scales note.Plain = ⊤
+NotesFresh scales (note.Cut c right) = IsFreshFor scales c
+NotesFresh scales (note.Merge m) = ⊤
+
 -- the other bucket of a change is there, or not, as its note asks: the right part of a cut has no page yet, and a bucket that is joined with the first one has one
 abbrev pub HasOther : Books → ℕ → LayoutChange → Type 0
 HasOther b bucket note.Plain = ⊤
 HasOther b bucket (note.Cut c right) = (right < b.shape.pages) × (has_page b (Bucket right) ≡ false)
 HasOther b bucket (note.Merge m) = (m ≢ bucket) × IsTrue (has_page b (Bucket m))
 
--- a change may be published, whatever the file says: its bucket has a page, and the other one as the note asks; the directory changes as the note does; the scales after it are scales of the file; its new pages are claimed ones, as many as it renews owners; and there is a place for it
+-- a change may be published, whatever the file says: its bucket has a page, and the other one as the note asks; the directory changes as the note does, which calls no boundary fresh that there is; the scales after it are scales of the file; its new pages are claimed ones, as many as it renews owners; and there is a place for it
 pub record IsPublishable {K : ℕ} (b : Books) (x : Publishing K) : Type 0 where
   pub place : b.front + 1 < 2 ^ 63
   pub bucket : IsTrue (has_page b (Bucket x.bucket))
   pub other : HasOther b x.bucket x.note
   pub kind : AreOfOneKind x.note x.directory
   pub directory : IsChangeOf (dims b.scales) x.directory
+  pub fresh : NotesFresh b.scales x.note
   pub scales : AreScalesOf K b.shape (scales_after_change b.scales x.note)
   pub claimed : ArePublishable x.pages b.pages
   pub count : length x.pages ≡ length (owners_renewed x.bucket x.note (parts_renewed b x))

@@ -1,0 +1,5 @@
+pub mod Shown
+pub mod Filters
+pub mod Kept
+pub mod Journals
+pub mod Rooms
