@@ -22,7 +22,9 @@ use Rattle.file_images.specs.Steps.{without_pages, with_slot, with_turned, with_
 use Rattle.layout_pages.specs.HoldingLaws.{ReadAs}
 use Rattle.layout_pages.specs.Steps.{gone_pages}
 use Rattle.file_books.specs.Books.{Books}
-use Rattle.file_books.specs.Effects.{RecordChange, More, Same, Fewer, Publishing, used_of, idle_half, root_places}
+use Rattle.file_books.specs.declared.record_change.RecordChange.{RecordChange}
+use Rattle.file_books.specs.declared.record_change.RecordChange.TheVariants.{More, Same, Fewer}
+use Rattle.file_books.specs.Effects.{Publishing, used_of, idle_half, root_places}
 
 -- what is kept after a sweep: the pages that it frees are not asked for any more
 abbrev pub swept_kept : {K : ℕ} → Books → Kept K → Kept K
