@@ -15,7 +15,7 @@ use Rattle.file_images.specs.Meets.{Covers}
 use Rattle.file_images.specs.Steps.{with_doubt, with_closed, with_tried, with_root, with_loose}
 use Rattle.file_books.specs.Books.{Books}
 use Rattle.file_books.specs.Effects.{published_books, committed_books, closed_books, turned_books, rooted_books, cleaned_books, swept_books, idle_half, used_of}
-use Rattle.file_standing.specs.Files.{IsFile, IsAlone}
+use Rattle.file_standing.specs.Files.{IsFile, IsAlone, InSession}
 use Rattle.file_standing.specs.Steps.{swept_kept, publishing, batch_of_one, IsWritten, with_fresh, committed_kept, turned_kept, cleaned_kept, IsNextRoot}
 
 -- each root that may be the newest leads to the standing of a file
@@ -40,12 +40,12 @@ pub record PageStepsStay (K : ℕ) : Type 0 where
 -- a change whose new pages were written, and whose batch may be committed on the next slot: while it is committed, all leads to the standing before it, or behind it; once it is committed and published, the file stands behind it, and a lone caller's state is the one after the update
 pub record CommitStands (K : ℕ) : Type 0 where
   pub during : (b : Books) (k : Kept K) (m : Standing K) (e : ℕ × BucketBox K) (u : Update K) (n : LayoutChange) (pages : List ℕ) (fresh : List (Option (List ℕ)))
-      → IsFile b k m → IsWritten b m e u n pages fresh → Leads (with_doubt (with_fresh k fresh) (batch_of_one b u n)) m
+      → IsFile b k m → InSession b k → IsWritten b m e u n pages fresh → Leads (with_doubt (with_fresh k fresh) (batch_of_one b u n)) m
   pub after : (b : Books) (k : Kept K) (m : Standing K) (e : ℕ × BucketBox K) (u : Update K) (n : LayoutChange) (pages : List ℕ) (fresh : List (Option (List ℕ)))
-      → IsFile b k m → IsWritten b m e u n pages fresh → used_of b b.half < b.shape.slots
+      → IsFile b k m → InSession b k → IsWritten b m e u n pages fresh → used_of b b.half < b.shape.slots
       → IsFile (committed_books (published_books b (publishing m e u n pages))) (committed_kept b k pages fresh (batch_of_one b u n)) (behind m (batch_of_one b u n))
   pub after_alone : (b : Books) (k : Kept K) (m : Standing K) (s : State K) (e : ℕ × BucketBox K) (u : Update K) (n : LayoutChange) (pages : List ℕ) (fresh : List (Option (List ℕ)))
-      → IsFile b k m → IsAlone b k m s → IsWritten b m e u n pages fresh → used_of b b.half < b.shape.slots
+      → IsFile b k m → InSession b k → IsAlone b k m s → IsWritten b m e u n pages fresh → used_of b b.half < b.shape.slots
       → IsAlone (committed_books (published_books b (publishing m e u n pages))) (committed_kept b k pages fresh (batch_of_one b u n)) (behind m (batch_of_one b u n)) (published e u n s)
 
 -- a root step leaves a file where it stands at each of its points: once the other header page is closed; once the halves' roles are exchanged, where the other one is clear; while the next root is tried; once it stands; while the gates of the half that is not current are cleared, which the root has all behind it; and once they are. A lone caller's state is then the one after a root step

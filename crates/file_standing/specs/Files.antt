@@ -16,10 +16,9 @@ use Rattle.file_books.specs.Effects.{used_of, idle_half}
 abbrev pub state_along : {K : ℕ} → WholeRoot → Lineage K → State K
 state_along w x = fold redo (opened x.table x.layout w.fields.front) (updates_in x.taken)
 
--- books agree with what is kept on a file: on the shape, the session, the number and the place of the newest root, the current half and how many slots of each are used; and if a root was tried, its place is the one that is tried
+-- books agree with what is kept on a file: on the shape, the number and the place of the newest root, the current half and how many slots of each are used; and if a root was tried, its place is the one that is tried
 pub record AgreeWith {K : ℕ} (b : Books) (k : Kept K) : Type 0 where
   pub shape : k.shape ≡ b.shape
-  pub session : k.root.fields.session ≡ b.session
   pub number : k.root.fields.number ≡ b.number
   pub root : k.root.fields.front ≡ b.rooted_at
   pub tried : (w : WholeRoot) → IsTried k.other w → b.trying_at ≡ Some w.fields.front
@@ -32,13 +31,13 @@ pub record AgreeWith {K : ℕ} (b : Books) (k : Kept K) : Type 0 where
 abbrev pub NoneAhead : {K : ℕ} → Kept K → WholeRoot → ℕ → Type 0
 NoneAhead {K} k w place = (h i : ℕ) (p : PlacedBatch K) → h < 2 → slice_get (on_half k h) i ≡ Some p → p.batch.session ≡ w.fields.session → p.batch.first ≤ place
 
--- a root that may be the newest leads to a standing along a lineage that the books know: the pages that it names are current at its front, and it counts as a lone caller's state behind the lineage; and no batch of its session begins beyond the place
+-- a root that may be the newest leads to a standing along a lineage that the books know: the pages that it names are current at its front, and it counts as a lone caller's state behind the lineage; its session is that of the books or an earlier one; and no batch of its session begins beyond the place
 pub record Follows {K : ℕ} (b : Books) (k : Kept K) (m : Standing K) (w : WholeRoot) (x : Lineage K) : Type 0 where
   pub along : LeadsAlong k w m x
   pub names : NamesCurrent w.fields.front b.pages w.area
   pub counts : CountsRoot b.pages b.front w.fields.front (state_along w x)
   pub before : w.fields.front ≤ b.front
-  pub session : w.fields.session ≡ b.session
+  pub session : w.fields.session ≤ b.session
   pub none : NoneAhead k w m.place
 
 -- a root follows along some lineage
@@ -71,3 +70,7 @@ pub record IsAlone {K : ℕ} (b : Books) (k : Kept K) (m : Standing K) (s : Stat
   pub state : s ≡ record (state_along k.root lineage) { used = used_of b b.half }
   pub quiet : b.trying_at ≡ None
   pub clear : used_of b (idle_half b) ≡ 0
+
+-- each root that may be the newest is of the session of the books, so that batches may be committed; while a file is opened it is of the one before
+abbrev pub InSession : {K : ℕ} → Books → Kept K → Type 0
+InSession b k = (w : WholeRoot) → MayBeNewest k w → w.fields.session ≡ b.session
