@@ -85,59 +85,6 @@ fn read_area<const K: usize, D: Disk, L: Ledger>(
     Ok(())
 }
 
-/// Reads the newest root of a file with these header pages, whose table area it reads in order.
-fn read_root<const K: usize, D: Disk, L: Ledger>(
-    alloc: Global,
-    disk: &mut D,
-    geometry: &Geometry,
-    zeroth: &[u8; PAGE_BYTES],
-    first: &[u8; PAGE_BYTES],
-    steps: &mut Steps<L>,
-) -> Result<Root<K>, Refusal>
-    requires attributes { geometry.now.shape.k ≡ K }
-    requires size { file_pages geometry.now.shape * PAGE_BYTES ≤ D.extent disk.old }
-    ensures found { IsTrue (D.honest disk.old)
-        → AreHeaderPages (D.seen disk.old) zeroth.now first.now
-        → IfOk result (λ root. IsNewestWhole geometry.now.shape (whole_of root) (D.seen disk.old)) }
-    ensures damaged { IsTrue (D.honest disk.old)
-        → AreHeaderPages (D.seen disk.old) zeroth.now first.now
-        → (p : ℕ)
-        → IsErrOf result (Damaged p)
-        → IsRootDamage geometry.now.shape (D.seen disk.old) p }
-    ensures no_memory { IsTrue (D.honest disk.old)
-        → AreHeaderPages (D.seen disk.old) zeroth.now first.now
-        → IsErrOf result NoMemory
-        → (r : RootFields) × IsNewest geometry.now.shape (D.seen disk.old) r }
-    ensures good_before { IsTrue (D.honest disk.old)
-        → AreHeaderPages (D.seen disk.old) zeroth.now first.now
-        → (n : ℕ)
-        → steps.new + 2 ≡ steps.old + n + 1
-        → 2 ≤ n
-        → OnErr result (AreRootPagesGood geometry.now.shape (D.seen disk.old) n) }
-    ensures lawful { IfOk result (λ root. IsRoot geometry.now.shape root) }
-    ensures limits { IfOk result (λ root.
-        limits_of root.scales ≡ replicate K geometry.now.shape.boundaries) }
-    ensures same { OnlyReads D.Disk disk.old disk.new }
-    ensures causes { HasCauses D.Disk MayRefuseReading disk.old disk.new result }
-    ensures ticks { TakesSteps (area_pages geometry.now.shape) steps.old steps.new result }
-{
-    let fields = choose(zeroth, first, geometry)?;
-    let mut gathered = match Gathered::<K>::new(alloc, geometry) {
-        Ok(gathered) => gathered,
-        Err(AllocError) => return Err(Refusal::NoMemory),
-    };
-    read_area(disk, geometry, &fields, &mut gathered, steps)?;
-    Ok(Root {
-        number: fields.number,
-        session: fields.session,
-        front: fields.front,
-        records: fields.records,
-        scales: gathered.scales,
-        parts: gathered.parts,
-        table: gathered.table,
-    })
-}
-
 /// Reads the newest root of a file whose header pages are at hand: its table area in order, and neither header page again.
 /// It tells what `read_newest` tells, as if it had read the two header pages first.
 pub fn read_newest_from<const K: usize, D: Disk, L: Ledger>(
@@ -160,7 +107,21 @@ pub fn read_newest_from<const K: usize, D: Disk, L: Ledger>(
     ensures causes { HasCauses D.Disk MayRefuseReading disk.old disk.new result }
     ensures ticks { TakesSteps (area_pages geometry.now.shape) steps.old steps.new result }
 {
-    read_root(alloc, disk, geometry, zeroth, first, steps)
+    let fields = choose(zeroth, first, geometry)?;
+    let mut gathered = match Gathered::<K>::new(alloc, geometry) {
+        Ok(gathered) => gathered,
+        Err(AllocError) => return Err(Refusal::NoMemory),
+    };
+    read_area(disk, geometry, &fields, &mut gathered, steps)?;
+    Ok(Root {
+        number: fields.number,
+        session: fields.session,
+        front: fields.front,
+        records: fields.records,
+        scales: gathered.scales,
+        parts: gathered.parts,
+        table: gathered.table,
+    })
 }
 
 /// Reads the newest root: both header pages, and then its table area in order. A page that is not what it has to be is

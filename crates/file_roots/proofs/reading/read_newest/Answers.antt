@@ -13,11 +13,11 @@ read_page-requires-2 g c = omega (arith, header_inside c.args.geometry.now.shape
 
 pub returns-in_err-read_page-clause-tells : goal.returns-in_err-read_page-clause-tells
 returns-in_err-read_page-clause-tells g c = λ h.
-    tells_none c.args.geometry.now.shape (g.D.Disk.seen c.args.disk.now) c.args.steps.now c.read_page.new.steps c.from_residual.result c.in_err-read_page.field-0.0 c.from_residual.ensures.1 c.in_err-read_page.ensures.causes.no_other (omega (arith, c.in_err-read_page.ensures.ticks))
+    tells_none c.args.geometry.now.shape c.args.geometry.now.lawful (g.D.Disk.seen c.args.disk.now) c.args.steps.now c.read_page.new.steps c.from_residual.result c.in_err-read_page.field-0.0 c.from_residual.ensures.1 c.in_err-read_page.ensures.causes.no_other (omega (arith, c.in_err-read_page.ensures.ticks))
 
 pub returns-in_err-read_page-2-clause-tells : goal.returns-in_err-read_page-2-clause-tells
 returns-in_err-read_page-2-clause-tells g c = λ h.
-    tells_none c.args.geometry.now.shape (g.D.Disk.seen c.args.disk.now) c.args.steps.now c.read_page-2.new.steps c.from_residual-in_err-read_page-2.result c.in_err-read_page-2.field-0.0 c.from_residual-in_err-read_page-2.ensures.1 c.in_err-read_page-2.ensures.causes.no_other (omega (arith, c.in_ok-read_page.ensures.ticks, c.in_err-read_page-2.ensures.ticks))
+    tells_none c.args.geometry.now.shape c.args.geometry.now.lawful (g.D.Disk.seen c.args.disk.now) c.args.steps.now c.read_page-2.new.steps c.from_residual-in_err-read_page-2.result c.in_err-read_page-2.field-0.0 c.from_residual-in_err-read_page-2.ensures.1 c.in_err-read_page-2.ensures.causes.no_other (omega (arith, c.in_ok-read_page.ensures.ticks, c.in_err-read_page-2.ensures.ticks))
 
 pub returns-clause-tells : goal.returns-clause-tells
 returns-clause-tells g c = λ h.
@@ -25,7 +25,7 @@ returns-clause-tells g c = λ h.
     let seen = g.D.Disk.seen c.args.disk.now in
     let one = c.in_ok-read_page.ensures in
     let two = c.in_ok-read_page-2.ensures in
-    tells_more s seen c.args.steps.now c.read_page-2.new.steps c.read_newest_from.new.steps c.read_newest_from.result (omega (arith, one.ticks, two.ticks))
+    tells_more s c.args.geometry.now.lawful seen c.args.steps.now c.read_page-2.new.steps c.read_newest_from.new.steps c.read_newest_from.result (omega (arith, one.ticks, two.ticks))
     (told_before g.D.Disk s c.read_page.new.out c.read_page-2.new.out c.read_page-2.new.steps (c.read_newest_from.new.steps + 2) c.read_newest_from.result (reads_then one.same two.same) h
     (record { zeroth_is = sym (one.bytes h); first_is = sym (two.bytes (one.same.honest ∙ h) ∙ ap (page_of 1) (one.same.seen h)) })
     c.read_newest_from.ensures.tells)
