@@ -9,6 +9,7 @@ use Rattle.grid_model.specs.Lists.{product}
 use Rattle.grid_model.specs.Cells.{cell_index, InCellBox}
 use Rattle.grid_model.specs.ScaleLaws.{IsCell}
 use Rattle.grid_model.proofs.Indices.{cell_index-below, cell_index-cons}
+use Rattle.grid_cells.specs.Dims.{IsDims}
 use Rattle.grid_cells.proofs.Products.{Positive, product-rest}
 use Rattle.directory_pages.specs.CellBoxes.{HasIndex, HoldsCell}
 use Rattle.directory_changes.specs.Changes.{HasCorners}
@@ -75,16 +76,12 @@ walk-begins ns lo hi from a p q r =
           (subst (λ (x : ℕ). IsLeastOf [] [] [] x (Some 0)) (sym zero-left) least-none)));
     }
 
--- an attribute back, written with one more
-pub one-back : (ns lo hi : List ℕ) (from a rest size lowest : ℕ) (o : Option ℕ) → 0 < a → Walked ns lo hi from a rest size lowest o → Walked ns lo hi from (a - 1 + 1) rest size lowest o
-one-back ns lo hi from a rest size lowest o p w = let same : a ≡ a - 1 + 1 = omega (arith, p) in subst (λ (x : ℕ). Walked ns lo hi from x rest size lowest o) same w
-
 module _ (ns lo hi : List ℕ) (from a rest size lowest : ℕ) (least : Option ℕ) (f : AreCorners ns lo hi) (pos : Positive ns) (p : a < length ns) (w : Walked ns lo hi from (a + 1) rest size lowest least) where
   abbrev interval : ℕ
   interval = rest % slice_index ns a
 
   -- the interval of the start is one of the attribute's
-  pub inside : rest % slice_index ns a < slice_index ns a
+  inside : rest % slice_index ns a < slice_index ns a
   inside = mod_below rest (slice_index ns a) (omega (arith, pos a p))
 
   first : drop a ns ≡ slice_index ns a ∷ drop (a + 1) ns
@@ -110,7 +107,7 @@ module _ (ns lo hi : List ℕ) (from a rest size lowest : ℕ) (least : Option �
   whole = ap (λ m. slice_index ns a * m) w.size_is ∙ sym (product-rest ns a p)
 
   -- a number below that of the intervals, times the cells behind, leaves room for them
-  pub room : (i : ℕ) → i < slice_index ns a → i * size + size ≤ product ns
+  room : (i : ℕ) → i < slice_index ns a → i * size + size ≤ product ns
   room i q = omega (arith, mul-le-mul_right size (next i q), add-mul i 1 size, whole, rest-few ns a pos)
     where
       next : (i : ℕ) → i < slice_index ns a → i + 1 ≤ slice_index ns a
@@ -129,11 +126,11 @@ module _ (ns lo hi : List ℕ) (from a rest size lowest : ℕ) (least : Option �
   left = let same : interval * size ≡ interval * product (drop (a + 1) ns) = ap (λ m. interval * m) w.size_is in omega (arith, parted, same, w.low)
 
   -- the lowest index behind is below their number
-  pub lowest-short : lowest < size
+  lowest-short : lowest < size
   lowest-short = omega (arith, w.lowest_is, w.size_is, cell_index-below (drop (a + 1) ns) (drop (a + 1) lo) (lies-cell (drop (a + 1) ns) (drop (a + 1) lo) (drop (a + 1) hi) (drop (a + 1) lo) later (record { count = later.lows; above = λ b q. omega arith; below = later.upright })))
 
   -- and so is the least one
-  pub least-short : MatchOption least (Unit {0}) (λ x. x < size)
+  least-short : MatchOption least (Unit {0}) (λ x. x < size)
   least-short = by least w.least_is
     where
       by : (o : Option ℕ) → IsLeastOf (drop (a + 1) ns) (drop (a + 1) lo) (drop (a + 1) hi) (from - rest * size) o → MatchOption o (Unit {0}) (λ x. x < size)
@@ -141,14 +138,14 @@ module _ (ns lo hi : List ℕ) (from a rest size lowest : ℕ) (least : Option �
       by (Some x) m = omega (arith, m.index_is, w.size_is, cell_index-below (drop (a + 1) ns) m.cell (lies-cell (drop (a + 1) ns) (drop (a + 1) lo) (drop (a + 1) hi) m.cell later m.lies))
 
   -- the next sums are at most the number of cells
-  pub lowest-fits : lowest + slice_index lo a * size ≤ product ns
+  lowest-fits : lowest + slice_index lo a * size ≤ product ns
   lowest-fits = omega (arith, lowest-short, room (slice_index lo a) (omega (arith, f.upright a p, f.under a p)))
 
-  pub size-fits : size * slice_index ns a ≤ product ns
+  size-fits : size * slice_index ns a ≤ product ns
   size-fits = omega (arith, mul_comm size (slice_index ns a), whole, rest-few ns a pos)
 
   -- one attribute more
-  pub walk-on : (new : Option ℕ) → new ≡ least_with (rest % slice_index ns a) (slice_index lo a) (slice_index hi a) size lowest least
+  walk-on : (new : Option ℕ) → new ≡ least_with (rest % slice_index ns a) (slice_index lo a) (slice_index hi a) size lowest least
       → Walked ns lo hi from a (rest / slice_index ns a) (size * slice_index ns a) (lowest + slice_index lo a * size) new
   walk-on new e =
       let turned : size * slice_index ns a ≡ slice_index ns a * size = mul_comm size (slice_index ns a) in
@@ -177,6 +174,35 @@ module _ (ns lo hi : List ℕ) (from a rest size lowest : ℕ) (least : Option �
     where
       next : (x y : ℕ) → x < y → x + 1 ≤ y
       next x y q = omega (arith, q)
+
+-- what the next step of the walk needs, and what it makes: no sum is too large, and one attribute more has been gone through
+pub record StepsBack {K : ℕ} (ns : List ℕ) (b : CellBox K) (from a rest size lowest : ℕ) (least : Option ℕ) : Type 0 where
+  pub few : rest % slice_index ns a * size + size ≤ 1000000
+  pub high : slice_index b.hi a * size + size ≤ 1000000
+  pub low : lowest < size
+  pub inside : MatchOption least (Unit {0}) (λ x. x < size)
+  pub lowest_fits : lowest + slice_index b.lo a * size ≤ 1000000
+  pub size_fits : size * slice_index ns a ≤ 1000000
+  pub on : (new : Option ℕ) → new ≡ least_with (rest % slice_index ns a) (slice_index b.lo a) (slice_index b.hi a) size lowest least
+      → Walked ns b.lo b.hi from a (rest / slice_index ns a) (size * slice_index ns a) (lowest + slice_index b.lo a * size) new
+
+-- the walk goes from one attribute to the one before it
+pub step-back : {K : ℕ} (ns : List ℕ) (b : CellBox K) (from a rest size lowest : ℕ) (least : Option ℕ) → IsDims ns → HasCorners ns b → IsUpright b → 0 < a → a ≤ length ns → Walked ns b.lo b.hi from a rest size lowest least → StepsBack ns b from (a - 1) rest size lowest least
+step-back ns b from a rest size lowest least d c u p q walked =
+    let f = corners ns b c u in
+    let here : a - 1 < length ns = omega (arith, p, q) in
+    let same : a ≡ a - 1 + 1 = omega (arith, p) in
+    let w = subst (λ (x : ℕ). Walked ns b.lo b.hi from x rest size lowest least) same walked in
+    let i = inside ns b.lo b.hi from (a - 1) rest size lowest least f d.each here w in
+    record {
+      few = omega (arith, d.few, room ns b.lo b.hi from (a - 1) rest size lowest least f d.each here w (rest % slice_index ns (a - 1)) i);
+      high = omega (arith, d.few, room ns b.lo b.hi from (a - 1) rest size lowest least f d.each here w (slice_index b.hi (a - 1)) (f.under (a - 1) here));
+      low = lowest-short ns b.lo b.hi from (a - 1) rest size lowest least f d.each here w;
+      inside = least-short ns b.lo b.hi from (a - 1) rest size lowest least f d.each here w;
+      lowest_fits = omega (arith, d.few, lowest-fits ns b.lo b.hi from (a - 1) rest size lowest least f d.each here w);
+      size_fits = omega (arith, d.few, size-fits ns b.lo b.hi from (a - 1) rest size lowest least f d.each here w);
+      on = walk-on ns b.lo b.hi from (a - 1) rest size lowest least f d.each here w;
+    }
 
 -- a cell of the box lies between its corners, and the other way round
 pub between : {K : ℕ} (ns : List ℕ) (b : CellBox K) (cell : List ℕ) → HasCorners ns b → IsCell ns cell → InCellBox b cell → Lies ns b.lo b.hi cell

@@ -1,31 +1,26 @@
 ghost use Rattle.directory_changes.specs.Changes.{IsChangeOf};
 
 use super::*;
-use directory_pages::next_part;
 use grid_cells::Dims;
 use grid_types::{CellBox, Cut, Region};
 use linear_scales::Scales;
 use std::test::*;
 
-/// Whether the parts that the patch of a box renews are those that hold a cell of it, as a walk over the cells finds them.
-fn is_walked<const K: usize>(
-    dims: &Dims<K>,
-    cells: &CellBox<K>,
-    change: &DirectoryChange<K>,
-) -> bool
+/// Whether a change renews exactly these parts, ascending.
+fn renews<const K: usize>(dims: &Dims<K>, change: &DirectoryChange<K>, parts: &[u32]) -> bool
     requires { IsChangeOf dims.now.intervals change.now }
 {
-    let mut count = 0;
-    for part in 0..1001 {
-        let next = next_changed_part(dims, change, part);
-        if next != next_part(dims, cells, part) {
+    let mut from: u32 = 0;
+    for part in parts {
+        if next_changed_part(dims, change, from) != Some(*part) {
             return false;
         }
-        if next == Some(part) {
-            count += 1;
-        }
+        from = part.wrapping_add(1);
     }
-    count == count_changed_parts(dims, change) && need(1, dims, change, true) == count + 2
+    let count = count_changed_parts(dims, change);
+    next_changed_part(dims, change, from).is_none()
+        && count as usize == parts.len()
+        && need(1, dims, change, true) == count + 2
 }
 
 #[test]
@@ -33,63 +28,28 @@ fn is_walked<const K: usize>(
 fn parts_of_boxes_are_found(rt: HostRuntime) -> Result<(), Fail> {
     let intervals = [2500];
     let (lo, hi) = ([999], [1000]);
-    assert!(rt;
-        is_walked(
-            &Dims { intervals },
-            &CellBox { lo, hi },
-            &DirectoryChange::Patch {
-                cells: CellBox { lo, hi },
-                bucket: 7
-            }
-        )
-    );
+    let cells = CellBox { lo, hi };
+    let change = DirectoryChange::Patch { cells, bucket: 7 };
+    assert!(rt; renews(&Dims { intervals }, &change, &[0, 1]));
     let intervals = [50, 50];
     let (lo, hi) = ([39, 49], [45, 49]);
-    assert!(rt;
-        is_walked(
-            &Dims { intervals },
-            &CellBox { lo, hi },
-            &DirectoryChange::Patch {
-                cells: CellBox { lo, hi },
-                bucket: 7
-            }
-        )
-    );
+    let cells = CellBox { lo, hi };
+    let change = DirectoryChange::Patch { cells, bucket: 7 };
+    assert!(rt; renews(&Dims { intervals }, &change, &[1, 2]));
     let (lo, hi) = ([39, 49], [45, 3]);
-    assert!(rt;
-        is_walked(
-            &Dims { intervals },
-            &CellBox { lo, hi },
-            &DirectoryChange::Patch {
-                cells: CellBox { lo, hi },
-                bucket: 7
-            }
-        )
-    );
+    let cells = CellBox { lo, hi };
+    let change = DirectoryChange::Patch { cells, bucket: 7 };
+    assert!(rt; renews(&Dims { intervals }, &change, &[]));
     let intervals = [5, 30, 40];
     let (lo, hi) = ([1, 7, 20], [3, 9, 20]);
-    assert!(rt;
-        is_walked(
-            &Dims { intervals },
-            &CellBox { lo, hi },
-            &DirectoryChange::Patch {
-                cells: CellBox { lo, hi },
-                bucket: 7
-            }
-        )
-    );
+    let cells = CellBox { lo, hi };
+    let change = DirectoryChange::Patch { cells, bucket: 7 };
+    assert!(rt; renews(&Dims { intervals }, &change, &[1, 2, 3]));
     let intervals = [7, 8, 9, 10];
     let (lo, hi) = ([2, 0, 8, 9], [5, 0, 8, 9]);
-    assert!(rt;
-        is_walked(
-            &Dims { intervals },
-            &CellBox { lo, hi },
-            &DirectoryChange::Patch {
-                cells: CellBox { lo, hi },
-                bucket: 7
-            }
-        )
-    );
+    let cells = CellBox { lo, hi };
+    let change = DirectoryChange::Patch { cells, bucket: 7 };
+    assert!(rt; renews(&Dims { intervals }, &change, &[1, 2, 3]));
     Ok(())
 }
 

@@ -1,5 +1,5 @@
--- The cells of a box of cells that lie on a part, and the parts that hold one of them.
-use Rattle.std.specs.Prelude.{◌≡◌, ◌<◌, ◌≤◌, ◌+◌, ◌-◌, ◌*◌, ◌/◌, ◌%◌, ℕ, List, length, min, slice_index}
+-- The cells of a box of cells that lie on a part, and whether a part holds one of them.
+use Rattle.std.specs.Prelude.{◌≡◌, ◌<◌, ◌+◌, ◌-◌, ◌*◌, ◌/◌, ◌%◌, ℕ, List, length, min, slice_index}
 use Rattle.grid_types.specs.declared.cell_box.CellBox.{CellBox}
 use Rattle.grid_model.specs.Lists.{product}
 use Rattle.grid_model.specs.Cells.{cell_index, InCellBox}
@@ -20,16 +20,6 @@ pub record LiesOnPart {K : ℕ} (ns : List ℕ) (b : CellBox K) (part : ℕ) (ce
 pub record HoldsCell {K : ℕ} (ns : List ℕ) (b : CellBox K) (part : ℕ) : Type 0 where
   pub cell : List ℕ
   pub lies : LiesOnPart ns b part cell
-
--- a part is the next from another one on: it holds a cell of the box, and none between them does
-pub record IsNextPart {K : ℕ} (ns : List ℕ) (b : CellBox K) (from part : ℕ) : Type 0 where
-  pub from_on : from ≤ part
-  pub holds : HoldsCell ns b part
-  pub least : (other : ℕ) → from ≤ other → HoldsCell ns b other → part ≤ other
-
--- no part from this one on holds a cell of the box
-abbrev pub IsNoneFrom : {K : ℕ} → List ℕ → CellBox K → ℕ → Type 0
-IsNoneFrom ns b from = (part : ℕ) → from ≤ part → HoldsCell ns b part → ⊥
 
 -- an index has a cell of a box of cells: some cell of the directory lies in the box and has this index
 pub record HasIndex {K : ℕ} (ns : List ℕ) (b : CellBox K) (at : ℕ) : Type 0 where

@@ -26,9 +26,7 @@ fn is_part_patched<const K: usize>(dims: &Dims<K>, cells: &CellBox<K>, part: u32
     let count = (dims.cells() - 1000 * part).min(1000);
     let mut page = [9; 4096];
     encode(part, &[1; 1000][..count as usize], &mut page);
-    if next_part(dims, cells, part) == Some(part) {
-        patch_cell_box(&mut page, part, dims, cells, 77);
-    }
+    patch_cell_box(&mut page, part, dims, cells, 77);
     for i in 0..count {
         let is_in = lies_between(cells, &dims.cell(1000 * part + i));
         if (bucket_at(&page, i) == 77) != is_in {
@@ -65,24 +63,5 @@ fn cell_boxes_are_patched(rt: HostRuntime) -> Result<(), Fail> {
     assert!(rt; is_patched(&Dims { intervals }, &between([2, 3, 4], [9, 10, 12])));
     let intervals = [3, 4, 5, 6];
     assert!(rt; is_patched(&Dims { intervals }, &between([1, 0, 2, 3], [1, 3, 4, 5])));
-    Ok(())
-}
-
-#[test]
-#[tactic(auto, using(grid_cells::proofs::Literals::literal))]
-fn parts_of_a_cell_box_are_found(rt: HostRuntime) -> Result<(), Fail> {
-    let intervals = [50, 50];
-    let dims = Dims { intervals };
-    let cases = [
-        ([0, 0], [49, 49], 0, Some(0)),
-        ([39, 49], [45, 49], 0, Some(1)),
-        ([39, 49], [45, 49], 2, Some(2)),
-        ([39, 49], [45, 49], 3, None),
-        ([39, 49], [39, 49], 2, None),
-        ([1, 1], [0, 9], 0, None),
-    ];
-    for (lo, hi, from, next) in cases {
-        assert_eq!(rt; next_part(&dims, &between(lo, hi), from), next);
-    }
     Ok(())
 }

@@ -1,10 +1,10 @@
-//! The cells of a box that lie on a part, and the parts that hold one of them.
-ghost use Rattle.std.specs.Prelude.{◌≡◌, ◌<◌, ◌*◌, ◌%◌, ◌↔◌, ℕ, List, length, slice_index, IsTrue, IfSome, MatchOption};
+//! The cells of a box that lie on a part.
+ghost use Rattle.std.specs.Prelude.{◌≡◌, ◌<◌, ◌*◌, ◌%◌, ◌↔◌, ℕ, List, length, slice_index, IsTrue};
 ghost use Rattle.grid_types.specs.Regions.{Within};
 ghost use Rattle.grid_model.specs.Lists.{product};
 ghost use Rattle.grid_model.specs.Cells.{cell_index, InCellBox};
 ghost use Rattle.directory_pages.specs.Spelling.{SpellsPart, bucket_in};
-ghost use Rattle.directory_pages.specs.CellBoxes.{cells_on, LiesOnPart, HoldsCell, IsNextPart, IsNoneFrom, IsPatched, IsBesideCellBox};
+ghost use Rattle.directory_pages.specs.CellBoxes.{cells_on, LiesOnPart, IsPatched, IsBesideCellBox};
 
 use crate::set_bucket;
 use grid_cells::Dims;
@@ -36,35 +36,6 @@ fn cells_on<const K: usize>(dims: &Dims<K>, part: u32) -> u32
     ensures { result ≡ cells_on dims.now.intervals part }
 {
     (dims.cells() - 1000 * part).min(1000)
-}
-
-/// Whether the part holds a cell of the box.
-fn holds_cell<const K: usize>(dims: &Dims<K>, cells: &CellBox<K>, part: u32) -> bool
-    requires { 1000 * part < product dims.now.intervals }
-    ensures { IsTrue result ↔ HoldsCell dims.now.intervals cells.now part }
-{
-    for i in 0..cells_on(dims, part) {
-        if is_in_cell_box(cells, &dims.cell(1000 * part + i)) {
-            return true;
-        }
-    }
-    false
-}
-
-/// The least part from this one on that holds a cell of the box. Whoever asks again from the part behind it comes to
-/// each of them, in ascending order.
-pub fn next_part<const K: usize>(dims: &Dims<K>, cells: &CellBox<K>, from: u32) -> Option<u32>
-    ensures there { IfSome result (λ part. 1000 * part < product dims.now.intervals) }
-    ensures next { MatchOption result
-        (IsNoneFrom dims.now.intervals cells.now from)
-        (IsNextPart dims.now.intervals cells.now from) }
-{
-    for part in from..dims.cells().div_ceil(1000) {
-        if holds_cell(dims, cells, part) {
-            return Some(part);
-        }
-    }
-    None
 }
 
 /// Gives each cell of the box that lies on this part the bucket, and changes no other byte of its page.

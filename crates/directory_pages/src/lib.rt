@@ -10,7 +10,7 @@ mod patching;
 mod reading;
 mod writing;
 
-pub use cell_boxes::{next_part, patch_cell_box};
+pub use cell_boxes::patch_cell_box;
 pub use cells::{bucket_at, set_bucket};
 pub use laws::spelling_law;
 pub use parts::part_of;

@@ -101,7 +101,7 @@ module _ {K : ℕ} (shape : Shape) (L : Layout K) (t : Table) (n : ℕ) (b : Buc
       m h.here h.there h.has
 
   -- a key out of the right part stays in its box
-  name-stays : (k : List ℕ) → IsKey K k → contains (right_of b c).region k ≡ false → number_at (split L n b c right) k ≡ number_at L k
+  pub name-stays : (k : List ℕ) → IsKey K k → contains (right_of b c).region k ≡ false → number_at (split L n b c right) k ≡ number_at L k
   name-stays k key out = same-name (split L n b c right) L k (split-numbered L n b c right there is.free sound.numbered) sound.numbered sound.apart
       (split-covers L n b c right there is.free region is.attribute is.within k sound.numbered (sound.covers k key)) (had k out)
 

@@ -113,7 +113,7 @@ module _ {K : ℕ} (shape : Shape) (L : Layout K) (t s : Table) (n : ℕ) (b : B
       by (inr p) (inr q) = record { here = h.here; there = sym (g.others i (λ r. omega arith) (λ r. omega arith)) ∙ h.there; has = h.has }
 
   -- a key out of the vanishing box stays in its box
-  name-stays : (k : List ℕ) → IsKey K k → contains vanishing.region k ≡ false → number_at merged k ≡ number_at L k
+  pub name-stays : (k : List ℕ) → IsKey K k → contains vanishing.region k ≡ false → number_at merged k ≡ number_at L k
   name-stays k key out = same-name (joined L n b m is.other) L k is.stands.sound.numbered sound.numbered sound.apart (is.stands.sound.covers k key) (had k out)
 
   -- a directory part that is not renewed keeps its page

@@ -1,5 +1,5 @@
-use Rattle.std.proofs.Common.{◌<◌, ◌-◌, arith, subst, ◌≡◌, ℕ, length, slice_index}
-use Rattle.directory_changes.proofs.Walked.{Walked, corners, walk-begins, one-back, inside, room, lowest-short, least-short, lowest-fits, size-fits, walk-on, walked-all}
+use Rattle.std.proofs.Common.{◌≡◌, ◌-◌, arith, subst, ℕ}
+use Rattle.directory_changes.proofs.Walked.{Walked, walk-begins, step-back, walked-all}
 use Rattle.directory_changes.proofs.boxes.least_from.Goals as goal
 
 pub loop-a-init : goal.loop-a-init
@@ -13,78 +13,28 @@ pub nonzero_div-rest : goal.nonzero_div-rest
 nonzero_div-rest g c = omega (arith, c.requires.lawful.each (c.loop-a.a - 1) (omega (arith, c.loop-a.auto.a, c.loop-a-test.true)))
 
 pub least_with-least-requires-clause-few : goal.least_with-least-requires-clause-few
-least_with-least-requires-clause-few g c =
-    let ns = c.args.intervals.now in
-    let b = c.args.cells.now in
-    let l = c.loop-a in
-    let f = corners ns b c.requires.corners c.requires.upright in
-    let p : l.a - 1 < length ns = omega (arith, l.auto.a, c.loop-a-test.true) in
-    let w = one-back ns b.lo b.hi c.args.from l.a l.rest l.size l.lowest l.least (omega (arith, c.loop-a-test.true)) l.invariant in
-    let i = inside ns b.lo b.hi c.args.from (l.a - 1) l.rest l.size l.lowest l.least f c.requires.lawful.each p w in
-    omega (arith, c.requires.lawful.few, room ns b.lo b.hi c.args.from (l.a - 1) l.rest l.size l.lowest l.least f c.requires.lawful.each p w _ i)
+least_with-least-requires-clause-few g c = (step-back c.args.intervals.now c.args.cells.now c.args.from c.loop-a.a c.loop-a.rest c.loop-a.size c.loop-a.lowest c.loop-a.least c.requires.lawful c.requires.corners c.requires.upright (omega (arith, c.loop-a-test.true)) (omega (arith, c.loop-a.auto.a)) c.loop-a.invariant).few
 
 pub least_with-least-requires-clause-high : goal.least_with-least-requires-clause-high
-least_with-least-requires-clause-high g c =
-    let ns = c.args.intervals.now in
-    let b = c.args.cells.now in
-    let l = c.loop-a in
-    let f = corners ns b c.requires.corners c.requires.upright in
-    let p : l.a - 1 < length ns = omega (arith, l.auto.a, c.loop-a-test.true) in
-    let w = one-back ns b.lo b.hi c.args.from l.a l.rest l.size l.lowest l.least (omega (arith, c.loop-a-test.true)) l.invariant in
-    omega (arith, c.requires.lawful.few, room ns b.lo b.hi c.args.from (l.a - 1) l.rest l.size l.lowest l.least f c.requires.lawful.each p w (slice_index b.hi (l.a - 1)) (f.under (l.a - 1) p))
+least_with-least-requires-clause-high g c = (step-back c.args.intervals.now c.args.cells.now c.args.from c.loop-a.a c.loop-a.rest c.loop-a.size c.loop-a.lowest c.loop-a.least c.requires.lawful c.requires.corners c.requires.upright (omega (arith, c.loop-a-test.true)) (omega (arith, c.loop-a.auto.a)) c.loop-a.invariant).high
 
 pub least_with-least-requires-clause-upright : goal.least_with-least-requires-clause-upright
 least_with-least-requires-clause-upright g c = c.requires.upright (c.loop-a.a - 1) (omega (arith, c.loop-a.auto.a, c.loop-a-test.true, c.requires.corners.low.count))
 
 pub least_with-least-requires-clause-low : goal.least_with-least-requires-clause-low
-least_with-least-requires-clause-low g c =
-    let ns = c.args.intervals.now in
-    let b = c.args.cells.now in
-    let l = c.loop-a in
-    let f = corners ns b c.requires.corners c.requires.upright in
-    let p : l.a - 1 < length ns = omega (arith, l.auto.a, c.loop-a-test.true) in
-    let w = one-back ns b.lo b.hi c.args.from l.a l.rest l.size l.lowest l.least (omega (arith, c.loop-a-test.true)) l.invariant in
-    lowest-short ns b.lo b.hi c.args.from (l.a - 1) l.rest l.size l.lowest l.least f c.requires.lawful.each p w
+least_with-least-requires-clause-low g c = (step-back c.args.intervals.now c.args.cells.now c.args.from c.loop-a.a c.loop-a.rest c.loop-a.size c.loop-a.lowest c.loop-a.least c.requires.lawful c.requires.corners c.requires.upright (omega (arith, c.loop-a-test.true)) (omega (arith, c.loop-a.auto.a)) c.loop-a.invariant).low
 
 pub least_with-least-requires-clause-inside : goal.least_with-least-requires-clause-inside
-least_with-least-requires-clause-inside g c =
-    let ns = c.args.intervals.now in
-    let b = c.args.cells.now in
-    let l = c.loop-a in
-    let f = corners ns b c.requires.corners c.requires.upright in
-    let p : l.a - 1 < length ns = omega (arith, l.auto.a, c.loop-a-test.true) in
-    let w = one-back ns b.lo b.hi c.args.from l.a l.rest l.size l.lowest l.least (omega (arith, c.loop-a-test.true)) l.invariant in
-    least-short ns b.lo b.hi c.args.from (l.a - 1) l.rest l.size l.lowest l.least f c.requires.lawful.each p w
+least_with-least-requires-clause-inside g c = (step-back c.args.intervals.now c.args.cells.now c.args.from c.loop-a.a c.loop-a.rest c.loop-a.size c.loop-a.lowest c.loop-a.least c.requires.lawful c.requires.corners c.requires.upright (omega (arith, c.loop-a-test.true)) (omega (arith, c.loop-a.auto.a)) c.loop-a.invariant).inside
 
 pub overflow_add-lowest : goal.overflow_add-lowest
-overflow_add-lowest g c =
-    let ns = c.args.intervals.now in
-    let b = c.args.cells.now in
-    let l = c.loop-a in
-    let f = corners ns b c.requires.corners c.requires.upright in
-    let p : l.a - 1 < length ns = omega (arith, l.auto.a, c.loop-a-test.true) in
-    let w = one-back ns b.lo b.hi c.args.from l.a l.rest l.size l.lowest l.least (omega (arith, c.loop-a-test.true)) l.invariant in
-    omega (arith, c.requires.lawful.few, lowest-fits ns b.lo b.hi c.args.from (l.a - 1) l.rest l.size l.lowest l.least f c.requires.lawful.each p w)
+overflow_add-lowest g c = omega (arith, (step-back c.args.intervals.now c.args.cells.now c.args.from c.loop-a.a c.loop-a.rest c.loop-a.size c.loop-a.lowest c.loop-a.least c.requires.lawful c.requires.corners c.requires.upright (omega (arith, c.loop-a-test.true)) (omega (arith, c.loop-a.auto.a)) c.loop-a.invariant).lowest_fits)
 
 pub overflow_mul-size : goal.overflow_mul-size
-overflow_mul-size g c =
-    let ns = c.args.intervals.now in
-    let b = c.args.cells.now in
-    let l = c.loop-a in
-    let f = corners ns b c.requires.corners c.requires.upright in
-    let p : l.a - 1 < length ns = omega (arith, l.auto.a, c.loop-a-test.true) in
-    let w = one-back ns b.lo b.hi c.args.from l.a l.rest l.size l.lowest l.least (omega (arith, c.loop-a-test.true)) l.invariant in
-    omega (arith, c.requires.lawful.few, size-fits ns b.lo b.hi c.args.from (l.a - 1) l.rest l.size l.lowest l.least f c.requires.lawful.each p w)
+overflow_mul-size g c = omega (arith, (step-back c.args.intervals.now c.args.cells.now c.args.from c.loop-a.a c.loop-a.rest c.loop-a.size c.loop-a.lowest c.loop-a.least c.requires.lawful c.requires.corners c.requires.upright (omega (arith, c.loop-a-test.true)) (omega (arith, c.loop-a.auto.a)) c.loop-a.invariant).size_fits)
 
 pub loop-a-preserved : goal.loop-a-preserved
-loop-a-preserved g c =
-    let ns = c.args.intervals.now in
-    let b = c.args.cells.now in
-    let l = c.loop-a in
-    let f = corners ns b c.requires.corners c.requires.upright in
-    let p : l.a - 1 < length ns = omega (arith, l.auto.a, c.loop-a-test.true) in
-    let w = one-back ns b.lo b.hi c.args.from l.a l.rest l.size l.lowest l.least (omega (arith, c.loop-a-test.true)) l.invariant in
-    walk-on ns b.lo b.hi c.args.from (l.a - 1) l.rest l.size l.lowest l.least f c.requires.lawful.each p w c.least_with-least.result c.least_with-least.ensures
+loop-a-preserved g c = (step-back c.args.intervals.now c.args.cells.now c.args.from c.loop-a.a c.loop-a.rest c.loop-a.size c.loop-a.lowest c.loop-a.least c.requires.lawful c.requires.corners c.requires.upright (omega (arith, c.loop-a-test.true)) (omega (arith, c.loop-a.auto.a)) c.loop-a.invariant).on c.least_with-least.result c.least_with-least.ensures
 
 pub returns : goal.returns
 returns g c =
