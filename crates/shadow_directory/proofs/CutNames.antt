@@ -1,26 +1,21 @@
 -- The names of the cells after a cut.
-use Rattle.std.proofs.Common.{◌≡◌, ◌≢◌, ◌<◌, ◌≤◌, ◌^◌, ◌⊎◌, inl, inr, ℕ, Bool, true, false, cond, T, List, length, slice_index, slice_set, Option, Some, None, IsTrue, IsSome, refl, sym, ap, ◌∙◌, subst, arith, true≢false, nat_cmp, nat_lt, nat_le, ltb-false, le-leb}
+use Rattle.std.proofs.Common.{◌≡◌, ◌≢◌, ◌<◌, ◌≤◌, ◌^◌, ◌⊎◌, inl, inr, ℕ, Bool, true, false, cond, T, List, length, slice_index, slice_set, Some, IsTrue, refl, sym, ap, ◌∙◌, subst, arith, nat_cmp}
 use Rattle.std.proofs.lemmas.Bool.{cases_eq}
 use Rattle.std.proofs.lemmas.List.{length-map, length-set, get_or-set_same, get_or-set_other}
 use Rattle.std.specs.FinMap.Entries.{is_sorted}
-use Rattle.std.specs.Option.{option_map_or}
 use Rattle.grid_types.specs.declared.layout_change.Cut.{Cut}
 use Rattle.grid_types.specs.declared.shape.Shape.{Shape}
 use Rattle.grid_types.specs.Regions.{contains, IsRegion}
 use Rattle.grid_types.specs.Keys.{IsKey}
-use Rattle.grid_types.proofs.Numbers.{both}
 use Rattle.grid_model.specs.Scales.{is_scale, is_drawn, scale_of, interval, intervals, refined_at}
 use Rattle.grid_model.specs.Cells.{dims, corner, InCellBox}
 use Rattle.grid_model.specs.ScaleLaws.{IsCell}
 use Rattle.grid_model.specs.Tables.{Table}
-use Rattle.grid_model.specs.Layouts.{BucketBox, Layout, box, holder, Apart, IsSound, IsDrawn, number_at}
-use Rattle.grid_model.specs.Notes.{left_of, right_of, scales_after, split}
-use Rattle.grid_model.proofs.Boxes.{one-box, some-not-none}
-use Rattle.grid_model.proofs.CutBoxes.{box-right, box-left, box-other, split-numbered, split-apart}
-use Rattle.grid_model.proofs.CutRegions.{left-contains, right-contains}
+use Rattle.grid_model.specs.Layouts.{BucketBox, Layout, box, Apart, IsSound, IsDrawn, number_at}
+use Rattle.grid_model.specs.Notes.{right_of, scales_after, split}
+use Rattle.grid_model.proofs.CutBoxes.{box-right, split-numbered, split-apart}
 use Rattle.grid_types.proofs.Parted.{up-to-high}
 use Rattle.grid_model.proofs.CutScales.{CutsScale, AreAfter, cut-scales, drawn-above}
-use Rattle.grid_model.proofs.Holders.{holder-box}
 use Rattle.grid_model.proofs.LowestKeys.{corner-long, corner-number}
 use Rattle.grid_model.proofs.ScaleLaws.{parts-numbers}
 use Rattle.grid_cells.specs.Laws.{IsRefinement, IsDrawnLayout}
@@ -29,7 +24,7 @@ use Rattle.grid_cells.proofs.Names.{names-stay}
 use Rattle.directory_changes.specs.Changes.{cell_box}
 use Rattle.directory_changes.specs.declared.change.DirectoryChange.TheVariants.{Patch, Grow}
 use Rattle.directory_changes.proofs.Growing.{dims-refined}
-use Rattle.history_pages.proofs.Cutting.{CutsBox, scales-of-split, scales-stay}
+use Rattle.history_pages.proofs.Cutting.{CutsBox, scales-of-split, scales-stay, name-stays}
 use Rattle.shadow_directory.proofs.After.{NamesAfter, names-it}
 use Rattle.shadow_directory.proofs.Regions.{key-in-box, box-has-key}
 
@@ -86,29 +81,6 @@ module _ {K : ℕ} (shape : Shape) (L : Layout K) (t : Table) (n : ℕ) (b : Buc
   lawful : (a : ℕ) → a < length (scales_after L.scales c) → is_scale (scale_of (scales_after L.scales c) a) ≡ true
   lawful a p = after-cut.lawful.ascend a (omega (arith, p, after-cut.lawful.attributes))
 
-  -- a key out of the right part stays in its box
-  stays : (k : List ℕ) → IsKey K k → contains (right_of b c).region k ≡ false → number_at (split L n b c right) k ≡ number_at L k
-  stays k key out = by (holder L k) refl (sound.covers k key)
-    where
-      left-has : contains b.region k ≡ true → contains (left_of b c).region k ≡ true
-      left-has has = left-contains b c k region is.attribute is.within ∙ both (contains b.region k) (nat_lt (slice_index k c.attribute) c.value) has (low (nat_lt (slice_index k c.attribute) c.value) refl)
-        where
-          low : (s : Bool) → nat_lt (slice_index k c.attribute) c.value ≡ s → s ≡ true
-          low true e = refl
-          low false e = absurd (true≢false (sym (right-contains b c k region is.attribute is.within ∙ both (contains b.region k) (nat_le c.value (slice_index k c.attribute)) has (le-leb c.value (slice_index k c.attribute) (ltb-false (slice_index k c.attribute) c.value e))) ∙ out))
-
-      at : (x : ℕ × BucketBox K) → box L x.0 ≡ Some x.1 → contains x.1.region k ≡ true → (x.0 ≡ n) ⊎ (x.0 ≢ n) → number_at (split L n b c right) k ≡ x.0
-      at x found has (inl e) =
-          let same : x.1 ≡ b = one-box L x.0 n x.1 b found there e in
-          names-it (split L n b c right) k n (left_of b c) sorted apart (box-left L n b c right there is.free) (left-has (ap (λ (d : BucketBox K). contains d.region k) (sym same) ∙ has)) ∙ sym e
-      at x found has (inr d) =
-          let other : x.0 ≢ right = λ e. some-not-none x.1 (sym found ∙ ap (box L) e ∙ is.free) in
-          names-it (split L n b c right) k x.0 x.1 sorted apart (box-other L n b c right there is.free x.0 other d ∙ found) has
-
-      by : (o : Option (ℕ × BucketBox K)) → holder L k ≡ o → IsSome o → number_at (split L n b c right) k ≡ option_map_or (λ e. e.0) o 0
-      by None e some = absurd (true≢false (sym some))
-      by (Some x) e some = let found = holder-box k L x sound.numbered e in at x found.0 found.1 (cases_eq x.0 n)
-
   module _ (cell : List ℕ) (cell-is : IsCell (dims (scales_after L.scales c)) cell) where
     lowest : IsKey K (corner (scales_after L.scales c) cell)
     lowest = record {
@@ -123,7 +95,7 @@ module _ {K : ℕ} (shape : Shape) (L : Layout K) (t : Table) (n : ℕ) (b : Buc
 
     -- the lowest keys of the others stay in their boxes
     cut-others : (InCellBox (cell_box (scales_after L.scales c) (right_of b c).region) cell → ⊥) → number_at (split L n b c right) (corner (scales_after L.scales c) cell) ≡ number_at L (corner (scales_after L.scales c) cell)
-    cut-others out = stays (corner (scales_after L.scales c) cell) lowest (by (contains (right_of b c).region (corner (scales_after L.scales c) cell)) refl)
+    cut-others out = name-stays shape L t n b c right sound there is (corner (scales_after L.scales c) cell) lowest (by (contains (right_of b c).region (corner (scales_after L.scales c) cell)) refl)
       where
         by : (s : Bool) → contains (right_of b c).region (corner (scales_after L.scales c) cell) ≡ s → s ≡ false
         by false e = refl

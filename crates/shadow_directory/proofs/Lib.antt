@@ -12,3 +12,7 @@ pub mod Patched
 pub mod Written
 pub mod PartLoop
 pub mod Owners
+pub mod Onward
+pub mod Needed
+pub mod Read
+pub mod PartWritten

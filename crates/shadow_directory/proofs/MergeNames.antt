@@ -1,8 +1,8 @@
 -- The names of the cells after a merge.
-use Rattle.std.proofs.Common.{◌≡◌, ◌≢◌, ◌<◌, ◌⊎◌, inl, inr, ℕ, Bool, true, false, ◌||◌, min, max, List, length, Option, Some, None, IsSome, refl, sym, ap, ◌∙◌, subst, arith, true≢false}
-use Rattle.std.proofs.lemmas.Bool.{cases_eq, or_left, or_right}
+use Rattle.std.proofs.Common.{◌≡◌, ◌<◌, ◌⊎◌, inl, inr, ℕ, Bool, true, false, ◌||◌, min, max, List, length, Some, refl, sym, ap, ◌∙◌, subst, arith}
+use Rattle.std.proofs.lemmas.Bool.{or_left, or_right}
 use Rattle.std.proofs.lemmas.List.{length-map}
-use Rattle.std.specs.Option.{option_map_or, unwrap_or}
+use Rattle.std.specs.Option.{unwrap_or}
 use Rattle.grid_types.specs.declared.shape.Shape.{Shape}
 use Rattle.grid_types.specs.Regions.{contains}
 use Rattle.grid_types.specs.Keys.{IsKey}
@@ -10,17 +10,15 @@ use Rattle.grid_model.specs.Scales.{is_scale, scale_of, intervals}
 use Rattle.grid_model.specs.Cells.{dims, corner, InCellBox}
 use Rattle.grid_model.specs.ScaleLaws.{IsCell}
 use Rattle.grid_model.specs.Tables.{Table}
-use Rattle.grid_model.specs.Layouts.{BucketBox, Layout, box, holder, IsSound, number_at}
+use Rattle.grid_model.specs.Layouts.{BucketBox, Layout, box, IsSound, number_at}
 use Rattle.grid_model.specs.LayoutLaws.{IsMerge}
 use Rattle.grid_model.specs.Notes.{together, joined}
-use Rattle.grid_model.proofs.Boxes.{one-box}
-use Rattle.grid_model.proofs.Holders.{holder-box}
 use Rattle.grid_model.proofs.Hulls.{hull-contains}
 use Rattle.grid_model.proofs.Joined.{is-merge}
 use Rattle.grid_model.proofs.LowestKeys.{corner-long, corner-number}
 use Rattle.directory_changes.specs.Changes.{cell_box}
 use Rattle.directory_changes.specs.declared.change.DirectoryChange.TheVariants.{Patch}
-use Rattle.history_pages.proofs.Joining.{JoinsBox}
+use Rattle.history_pages.proofs.Joining.{JoinsBox, name-stays}
 use Rattle.history_pages.proofs.Numbers.{lower-higher}
 use Rattle.shadow_directory.proofs.After.{NamesAfter, names-it}
 use Rattle.shadow_directory.proofs.Regions.{key-in-box, box-has-key}
@@ -58,29 +56,7 @@ module _ {K : ℕ} (shape : Shape) (L : Layout K) (t s : Table) (n : ℕ) (b : B
 
   -- a key out of the box that vanishes stays in its box
   stays : (k : List ℕ) → IsKey K k → contains vanishes.gone.region k ≡ false → number_at (joined L n b m is.other) k ≡ number_at L k
-  stays k key out = by (holder L k) refl (sound.covers k key)
-    where
-      not-high : (x : ℕ × BucketBox K) → box L x.0 ≡ Some x.1 → contains x.1.region k ≡ true → x.0 ≢ max n m
-      not-high x found has e =
-          let same : x.1 ≡ vanishes.gone = one-box L x.0 (max n m) x.1 vanishes.gone found vanishes.at e in
-          true≢false (sym has ∙ ap (λ (d : BucketBox K). contains d.region k) same ∙ out)
-
-      at : (x : ℕ × BucketBox K) → box L x.0 ≡ Some x.1 → contains x.1.region k ≡ true → (x.0 ≡ n) ⊎ (x.0 ≢ n) → (x.0 ≡ m) ⊎ (x.0 ≢ m) → number_at (joined L n b m is.other) k ≡ x.0
-      at x found has (inl e) q =
-          let same : x.1 ≡ b = one-box L x.0 n x.1 b found there e in
-          let here : contains b.region k ≡ true = ap (λ (d : BucketBox K). contains d.region k) (sym same) ∙ has in
-          let high = not-high x found has in
-          made k (hull-has k ∙ or_left (contains b.region k) (contains is.other.region k) here) ∙ omega (arith, e, high, lower-higher n m)
-      at x found has (inr d) (inl e) =
-          let same : x.1 ≡ is.other = one-box L x.0 m x.1 is.other found is.beside e in
-          let here : contains is.other.region k ≡ true = ap (λ (d : BucketBox K). contains d.region k) (sym same) ∙ has in
-          let high = not-high x found has in
-          made k (hull-has k ∙ or_right (contains b.region k) (contains is.other.region k) here) ∙ omega (arith, e, high)
-      at x found has (inr d) (inr f) = names-it (joined L n b m is.other) k x.0 x.1 new.numbered new.apart (merge.others x.0 d f ∙ found) has
-
-      by : (o : Option (ℕ × BucketBox K)) → holder L k ≡ o → IsSome o → number_at (joined L n b m is.other) k ≡ option_map_or (λ e. e.0) o 0
-      by None e some = absurd (true≢false (sym some))
-      by (Some x) e some = let found = holder-box k L x sound.numbered e in at x found.0 found.1 (cases_eq x.0 n) (cases_eq x.0 m)
+  stays k key out = name-stays shape L t s n b m sound there is k key (ap (λ (d : BucketBox K). contains d.region k) vanishes.is_it ∙ out)
 
   lawful : (a : ℕ) → a < length L.scales → is_scale (scale_of L.scales a) ≡ true
   lawful a p = sound.scales a (omega (arith, p, sound.attributes))

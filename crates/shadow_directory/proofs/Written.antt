@@ -35,7 +35,7 @@ module _ (t : ℕ → Bool) (n : ℕ) where
   taken-in e = filter-more t n ∙ ap (λ b. filter t (below n) ++ cond b (n ∷ []) []) e
 
 -- the numbers below one, and those from it on
-range-split : (a n m : ℕ) → range_with_len a (n + m) ≡ range_with_len a n ++ range_with_len (a + n) m
+pub range-split : (a n m : ℕ) → range_with_len a (n + m) ≡ range_with_len a n ++ range_with_len (a + n) m
 range-split a zero m = λ i. range_with_len (zero-right i) (zero-left i)
   where
     zero-right : a ≡ a + 0

@@ -1,7 +1,8 @@
 -- The cells of a part as they were before a growth, by their indices.
-use Rattle.std.specs.Prelude.{◌≡◌, ◌<◌, ◌≤◌, ◌+◌, ◌*◌, ◌/◌, ℕ, List, length, slice_index}
+use Rattle.std.specs.Prelude.{◌≡◌, ◌<◌, ◌≤◌, ◌+◌, ◌*◌, ◌/◌, ◌==◌, ℕ, Bool, List, length, take, filter, slice_index}
+use Rattle.std.specs.List.{list_any}
 use Rattle.grid_types.specs.declared.sizes.TheConstants.{WORDS_ON_PAGE}
-use Rattle.grid_model.specs.Lists.{product}
+use Rattle.grid_model.specs.Lists.{below, product}
 use Rattle.grid_model.specs.Cells.{cell_index, image_of}
 use Rattle.grid_model.specs.ScaleLaws.{IsCell}
 use Rattle.directory_changes.specs.Changes.{grown}
@@ -22,6 +23,14 @@ pub record IsNextNeeded (images : List ℕ) (n from part : ℕ) : Type 0 where
 -- no part from this one on has one of the first n of these indices
 abbrev pub IsNoneNeeded : List ℕ → ℕ → ℕ → Type 0
 IsNoneNeeded images n from = (k : ℕ) → k < n → slice_index images k / WORDS_ON_PAGE < from
+
+-- whether one of the first n of these indices lies on a part
+abbrev pub needs : List ℕ → ℕ → ℕ → Bool
+needs images n part = list_any (λ x. x / WORDS_ON_PAGE == part) (take n images)
+
+-- the parts, of so many, that have one of the first n of these indices, ascending
+unfoldable pub parts_needed : List ℕ → ℕ → ℕ → List ℕ
+parts_needed images n count = filter (needs images n) (below count)
 
 -- a directory is another one in which interval i of attribute a was split in two
 pub record IsSplit (ns new : List ℕ) (a i : ℕ) : Type 0 where

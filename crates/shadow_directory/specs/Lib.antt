@@ -3,3 +3,5 @@ pub mod Directories
 pub mod Calls
 pub mod NewPages
 pub mod Images
+pub mod Reads
+pub mod WrittenParts

@@ -13,11 +13,11 @@ pub record LeavesPages {D : Type 0} (pages : D → Option (Owner → Option (Lis
   pub lies : (part page : ℕ) → lies_at new part page → lies_at old part page
   pub rest : stays old new
 
--- a reading counts once where it is done, and at most once where it fails
-pub record Ticks {T E : Type 0} (before now : ℕ) (result : Result T E) : Type 0 where
-  pub once : OnOk result (now ≡ before + 1)
+-- a call makes so many steps where it is done, and at most as many where it fails
+pub record Ticks {T E : Type 0} (count before now : ℕ) (result : Result T E) : Type 0 where
+  pub all : OnOk result (now ≡ before + count)
   pub least : before ≤ now
-  pub most : now ≤ before + 1
+  pub most : now ≤ before + count
 
 -- what was written begins as before, and goes on with pages of these owners, in their order
 pub record BeganFor (owners : List Owner) (old new : List (Owner × List ℕ)) : Type 0 where

@@ -1,15 +1,14 @@
 //! Parts of a refined directory.
-ghost use Rattle.std.specs.Prelude.{◌≡◌, ◌<◌, ◌≤◌, ◌*◌, ◌+◌, ◌∷◌, ◌++◌, [], ℕ, List, Some, slice_index, OnOk, OnErr, IfErr};
-ghost use Rattle.grid_types.specs.declared.owner.Owner.TheVariants.{Part};
+ghost use Rattle.std.specs.Prelude.{◌≡◌, ◌<◌, ◌≤◌, ◌*◌, ◌∷◌, [], ℕ, List, Some, slice_index, OnOk, IfErr};
 ghost use Rattle.grid_types.specs.Shapes.{word_pages};
 ghost use Rattle.grid_model.specs.Lists.{product};
-ghost use Rattle.grid_model.specs.Spellings.{directory_spelling};
 ghost use Rattle.directory_changes.specs.Changes.{grown, IsGrowth};
 ghost use Rattle.directory_changes.specs.declared.change.DirectoryChange.TheVariants.{Grow};
-ghost use Rattle.shadow_directory.specs.Pages.{BeganFor};
-ghost use Rattle.shadow_directory.specs.Calls.{Keeps, OnlyReads, Tells, Holds, IsCause, IsFault, WrotePart};
-ghost use Rattle.shadow_directory.specs.Directories.{IsPartAfter};
-ghost use Rattle.shadow_directory.specs.Images.{AreImages};
+ghost use Rattle.shadow_directory.specs.Pages.{Ticks};
+ghost use Rattle.shadow_directory.specs.Calls.{OnlyReads, Tells, Holds, IsCause, IsFault};
+ghost use Rattle.shadow_directory.specs.Images.{parts_needed};
+ghost use Rattle.shadow_directory.specs.Reads.{sources, readings, last_held};
+ghost use Rattle.shadow_directory.specs.WrittenParts.{WritesPart};
 
 use crate::images::{find_images, next_needed, take_buckets};
 use crate::reading::read_old;
@@ -41,6 +40,7 @@ fn hold<const K: usize, P: ChangePages, L: Ledger>(
     ensures cause { IfErr result
         (IsCause P.ChangePages dims.now.intervals pages.old pages.new page.new) }
     ensures same { OnlyReads P.ChangePages pages.old pages.new }
+    ensures ticks { Ticks (readings held.old (part ∷ [])) steps.old steps.new result }
 {
     if *held == Some(part) {
         return Ok(());
@@ -78,6 +78,11 @@ fn gather<const K: usize, P: ChangePages, L: Ledger>(
     ensures cause { IfErr result
         (IsCause P.ChangePages dims.now.intervals pages.old pages.new page.new) }
     ensures same { OnlyReads P.ChangePages pages.old pages.new }
+    ensures last { OnOk result (held.new ≡ last_held held.old
+        (parts_needed images.now count (word_pages (product dims.now.intervals)))) }
+    ensures ticks { Ticks (readings held.old
+        (parts_needed images.now count (word_pages (product dims.now.intervals))))
+        steps.old steps.new result }
 {
     let mut from = 0;
     while let Some(part) = next_needed(images, count, from) {
@@ -110,23 +115,15 @@ pub fn grow_part<const K: usize, P: ChangePages, L: Ledger>(
     requires parts { P.parts pages.old ≡ word_pages (product dims.now.intervals) }
     requires room { 1 ≤ P.room pages.old }
     requires held { Holds P.ChangePages dims.now.intervals pages.old held.old room.old.old_page }
-    ensures written { (D after : List ℕ)
-        → Tells P.ChangePages pages.old dims.now.intervals D
-        → IsPartAfter dims.now.intervals (Grow attribute interval cells.now bucket) D part after
-        → OnOk result (P.written pages.new
-        ≡ P.written pages.old ++ (Part part, directory_spelling part after) ∷ []) }
+    ensures writes { WritesPart P.ChangePages dims.now.intervals
+        (Grow attribute interval cells.now bucket) part
+        result pages.old pages.new room.new.old_page }
     ensures held { OnOk result
         (Holds P.ChangePages dims.now.intervals pages.new held.new room.new.old_page) }
-    ensures honest { (D : List ℕ)
-        → Tells P.ChangePages pages.old dims.now.intervals D
-        → IfErr result IsFault }
-    ensures cause { IfErr result
-        (IsCause P.ChangePages dims.now.intervals pages.old pages.new room.new.old_page) }
-    ensures same { Keeps P.ChangePages pages.old pages.new }
-    ensures wrote { OnOk result (WrotePart part (P.written pages.old) (P.written pages.new)) }
-    ensures began { OnErr result
-        (BeganFor (Part part ∷ []) (P.written pages.old) (P.written pages.new)) }
-    ensures left { OnOk result (P.room pages.new + 1 ≡ P.room pages.old) }
+    ensures last { OnOk result (held.new
+        ≡ last_held held.old (sources dims.now.intervals attribute interval part)) }
+    ensures ticks { Ticks (readings held.old (sources dims.now.intervals attribute interval part))
+        steps.old steps.new result }
 {
     let mut images = [0; 1000];
     let mut buckets = [0; 1000];

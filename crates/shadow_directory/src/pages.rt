@@ -48,7 +48,7 @@ pub trait ChangePages {
         ensures bytes { (f : Owner → Option (List ℕ))
             → pages self.old ≡ Some f
             → OnOk result (f (Part part) ≡ Some page.new) }
-        ensures ticks { Ticks steps.old steps.new result }
+        ensures ticks { Ticks 1 steps.old steps.new result }
         ensures same { LeavesPages pages parts lies_at stays self.old self.new }
         ensures written { written self.new ≡ written self.old }
         ensures room { room self.new ≡ room self.old }

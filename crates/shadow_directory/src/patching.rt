@@ -1,13 +1,10 @@
 //! Parts of a directory whose cells in a box get another bucket.
-ghost use Rattle.std.specs.Prelude.{◌≡◌, ◌<◌, ◌≤◌, ◌*◌, ◌+◌, ◌∷◌, ◌++◌, [], ℕ, List, OnOk, OnErr, IfErr};
-ghost use Rattle.grid_types.specs.declared.owner.Owner.TheVariants.{Part};
+ghost use Rattle.std.specs.Prelude.{◌≡◌, ◌<◌, ◌≤◌, ◌*◌};
 ghost use Rattle.grid_types.specs.Shapes.{word_pages};
 ghost use Rattle.grid_model.specs.Lists.{product};
-ghost use Rattle.grid_model.specs.Spellings.{directory_spelling};
 ghost use Rattle.directory_changes.specs.declared.change.DirectoryChange.TheVariants.{Patch};
-ghost use Rattle.shadow_directory.specs.Pages.{BeganFor};
-ghost use Rattle.shadow_directory.specs.Calls.{Keeps, Tells, IsCause, IsFault, WrotePart};
-ghost use Rattle.shadow_directory.specs.Directories.{IsPartAfter};
+ghost use Rattle.shadow_directory.specs.Pages.{Ticks};
+ghost use Rattle.shadow_directory.specs.WrittenParts.{WritesPart};
 
 use crate::reading::read_old;
 use crate::writing::write_page;
@@ -31,21 +28,9 @@ pub fn patch_part<const K: usize, P: ChangePages, L: Ledger>(
     requires part { 1000 * part < product dims.now.intervals }
     requires parts { P.parts pages.old ≡ word_pages (product dims.now.intervals) }
     requires room { 1 ≤ P.room pages.old }
-    ensures written { (D after : List ℕ)
-        → Tells P.ChangePages pages.old dims.now.intervals D
-        → IsPartAfter dims.now.intervals (Patch cells.now bucket) D part after
-        → OnOk result (P.written pages.new
-        ≡ P.written pages.old ++ (Part part, directory_spelling part after) ∷ []) }
-    ensures honest { (D : List ℕ)
-        → Tells P.ChangePages pages.old dims.now.intervals D
-        → IfErr result IsFault }
-    ensures cause { IfErr result
-        (IsCause P.ChangePages dims.now.intervals pages.old pages.new room.new.old_page) }
-    ensures same { Keeps P.ChangePages pages.old pages.new }
-    ensures wrote { OnOk result (WrotePart part (P.written pages.old) (P.written pages.new)) }
-    ensures began { OnErr result
-        (BeganFor (Part part ∷ []) (P.written pages.old) (P.written pages.new)) }
-    ensures left { OnOk result (P.room pages.new + 1 ≡ P.room pages.old) }
+    ensures writes { WritesPart P.ChangePages dims.now.intervals (Patch cells.now bucket) part
+        result pages.old pages.new room.new.old_page }
+    ensures ticks { Ticks 1 steps.old steps.new result }
 {
     read_old(pages, part, dims, &mut room.old_page, steps)?;
     patch_cell_box(&mut room.old_page, part, dims, cells, bucket);

@@ -45,7 +45,7 @@ pub fn read_old<const K: usize, P: ChangePages, L: Ledger>(
     ensures cause { IfErr result
         (IsCause P.ChangePages dims.now.intervals pages.old pages.new page.new) }
     ensures same { OnlyReads P.ChangePages pages.old pages.new }
-    ensures ticks { Ticks steps.old steps.new result }
+    ensures ticks { Ticks 1 steps.old steps.new result }
 {
     match pages.read_part(part, page, steps) {
         Err(DiskFailed) => Err(Refusal::ReadFault),

@@ -10,12 +10,13 @@ ghost use Rattle.grid_model.specs.Cells as cells;
 ghost use Rattle.grid_model.specs.Tables.{Table};
 ghost use Rattle.grid_model.specs.Layouts.{BucketBox, Layout};
 ghost use Rattle.grid_model.specs.Lone.{renewed};
-ghost use Rattle.grid_model.specs.Spellings.{directory_spelling};
 ghost use Rattle.history_pages.specs.PageLaws.{IsChange};
 ghost use Rattle.directory_changes.specs.Changes.{directory_change, parts_after, parts_changed, IsChangeOf};
-ghost use Rattle.shadow_directory.specs.Pages.{BeganFor};
-ghost use Rattle.shadow_directory.specs.Calls.{Keeps, Tells, TellsPages, Holds, IsCause, IsFault, WrotePart};
-ghost use Rattle.shadow_directory.specs.Directories.{IsPartAfter, AreAfter};
+ghost use Rattle.shadow_directory.specs.Pages.{BeganFor, Ticks};
+ghost use Rattle.shadow_directory.specs.Calls.{Keeps, Tells, TellsPages, Holds, IsCause, IsFault};
+ghost use Rattle.shadow_directory.specs.Directories.{AreAfter};
+ghost use Rattle.shadow_directory.specs.Reads.{page_reads, part_reads, held_after};
+ghost use Rattle.shadow_directory.specs.WrittenParts.{WritesPart};
 ghost use Rattle.history_pages.specs.NewPages.{new_page, new_pages};
 ghost use Rattle.shadow_directory.specs.NewPages.{bucket_pages, part_pages, WroteParts, WroteChange};
 
@@ -86,23 +87,14 @@ fn write_part<const K: usize, P: ChangePages, L: Ledger>(
     requires parts { P.parts pages.old ≡ word_pages (product dims.now.intervals) }
     requires room { 1 ≤ P.room pages.old }
     requires held { Holds P.ChangePages dims.now.intervals pages.old held.old room.old.old_page }
-    ensures written { (D after : List ℕ)
-        → Tells P.ChangePages pages.old dims.now.intervals D
-        → IsPartAfter dims.now.intervals change.now D part after
-        → OnOk result (P.written pages.new
-        ≡ P.written pages.old ++ (Part part, directory_spelling part after) ∷ []) }
+    ensures writes { WritesPart P.ChangePages dims.now.intervals change.now part
+        result pages.old pages.new room.new.old_page }
     ensures held { OnOk result
         (Holds P.ChangePages dims.now.intervals pages.new held.new room.new.old_page) }
-    ensures honest { (D : List ℕ)
-        → Tells P.ChangePages pages.old dims.now.intervals D
-        → IfErr result IsFault }
-    ensures cause { IfErr result
-        (IsCause P.ChangePages dims.now.intervals pages.old pages.new room.new.old_page) }
-    ensures same { Keeps P.ChangePages pages.old pages.new }
-    ensures wrote { OnOk result (WrotePart part (P.written pages.old) (P.written pages.new)) }
-    ensures began { OnErr result
-        (BeganFor (Part part ∷ []) (P.written pages.old) (P.written pages.new)) }
-    ensures left { OnOk result (P.room pages.new + 1 ≡ P.room pages.old) }
+    ensures last { OnOk result
+        (held.new ≡ held_after dims.now.intervals change.now held.old part) }
+    ensures ticks { Ticks (part_reads dims.now.intervals change.now held.old part)
+        steps.old steps.new result }
 {
     match change {
         DirectoryChange::Nothing => unreachable!(),
@@ -152,6 +144,7 @@ fn write_parts<const K: usize, P: ChangePages, L: Ledger>(
     ensures began { OnErr result
         (BeganFor (map Part (parts_changed dims.now.intervals change.now))
         (P.written pages.old) (P.written pages.new)) }
+    ensures ticks { Ticks (page_reads dims.now.intervals change.now) steps.old steps.new result }
 {
     let mut held = None;
     for part in 0..parts_after(dims, change) {
@@ -201,6 +194,7 @@ pub fn write_change<const K: usize, P: ChangePages, L: Ledger>(
         (map (λ b. Bucket b.number) buckets.now
         ++ map Part (parts_changed dims.now.intervals change.now))
         (P.written pages.old) (P.written pages.new)) }
+    ensures ticks { Ticks (page_reads dims.now.intervals change.now) steps.old steps.new result }
 {
     write_buckets(pages, buckets)?;
     write_parts(pages, dims, change, room, steps)
