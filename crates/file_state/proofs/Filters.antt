@@ -20,7 +20,7 @@ count_alike p q (suc m) same =
 -- where one number more passes, one more passes
 pub count_added : (p q : ℕ → Bool) (r m : ℕ) → r < m → p r ≡ false → q r ≡ true → ((n : ℕ) → n ≢ r → q n ≡ p n) → length (filter q (below m)) ≡ length (filter p (below m)) + 1
 count_added p q r zero low was is same = absurd (omega (arith, low))
-count_added p q r (suc m) low was is same = by (cases_eq r m)
+count_added p q r (suc m) low was is same = by (cases_eq r m) (λ less. count_added p q r m less was is same)
   where
     next : suc m ≡ m + 1
     next = omega arith
@@ -28,14 +28,14 @@ count_added p q r (suc m) low was is same = by (cases_eq r m)
     more : (f : ℕ → Bool) → length (filter f (below (suc m))) ≡ length (filter f (below m)) + cond (f m) 1 0
     more f = ap (λ (k : ℕ). length (filter f (below k))) next ∙ count-more f m
 
-    by : (r ≡ m) ⊎ (r ≢ m) → length (filter q (below (suc m))) ≡ length (filter p (below (suc m))) + 1
-    by (inl e) =
+    by : (r ≡ m) ⊎ (r ≢ m) → (r < m → length (filter q (below m)) ≡ length (filter p (below m)) + 1) → length (filter q (below (suc m))) ≡ length (filter p (below (suc m))) + 1
+    by (inl e) before =
         let rest : length (filter q (below m)) ≡ length (filter p (below m)) = count_alike q p m (λ n less. same n (λ is. omega (arith, less, is, e))) in
         let one : ◌≡◌ {A = ℕ} (cond (q m) 1 0) 1 = ap (λ (t : Bool). cond {A = ℕ} t 1 0) (ap q (sym e) ∙ is) in
         let none : ◌≡◌ {A = ℕ} (cond (p m) 1 0) 0 = ap (λ (t : Bool). cond {A = ℕ} t 1 0) (ap p (sym e) ∙ was) in
         omega (arith, more q, more p, rest, one, none)
-    by (inr apart) =
-        let rest : length (filter q (below m)) ≡ length (filter p (below m)) + 1 = count_added p q r m (omega (arith, low, apart)) was is same in
+    by (inr apart) before =
+        let rest : length (filter q (below m)) ≡ length (filter p (below m)) + 1 = before (omega (arith, low, apart)) in
         let one : ◌≡◌ {A = ℕ} (cond (q m) 1 0) (cond (p m) 1 0) = ap (λ (t : Bool). cond {A = ℕ} t 1 0) (same m (λ e. apart (sym e))) in
         omega (arith, more q, more p, rest, one)
 
@@ -52,7 +52,7 @@ count_all p (suc m) all =
 -- where one passes, some do
 pub count_some : (p : ℕ → Bool) (r m : ℕ) → r < m → p r ≡ true → 1 ≤ length (filter p (below m))
 count_some p r zero low is = absurd (omega (arith, low))
-count_some p r (suc m) low is = by (cases_eq r m)
+count_some p r (suc m) low is = by (cases_eq r m) (λ less. count_some p r m less is)
   where
     next : suc m ≡ m + 1
     next = omega arith
@@ -60,11 +60,11 @@ count_some p r (suc m) low is = by (cases_eq r m)
     more : length (filter p (below (suc m))) ≡ length (filter p (below m)) + cond (p m) 1 0
     more = ap (λ (k : ℕ). length (filter p (below k))) next ∙ count-more p m
 
-    by : (r ≡ m) ⊎ (r ≢ m) → 1 ≤ length (filter p (below (suc m)))
-    by (inl e) =
+    by : (r ≡ m) ⊎ (r ≢ m) → (r < m → 1 ≤ length (filter p (below m))) → 1 ≤ length (filter p (below (suc m)))
+    by (inl e) before =
         let one : ◌≡◌ {A = ℕ} (cond (p m) 1 0) 1 = ap (λ (t : Bool). cond {A = ℕ} t 1 0) (ap p (sym e) ∙ is) in
         omega (arith, more, one)
-    by (inr apart) = omega (arith, more, count_some p r m (omega (arith, low, apart)) is)
+    by (inr apart) before = omega (arith, more, before (omega (arith, low, apart)))
 
 -- a number is among those that pass below another one exactly where it passes, if none passes beyond
 pub among_passing : (p : ℕ → Bool) (m n : ℕ) → (p n ≡ true → n < m) → is_among (filter p (below m)) n ≡ p n

@@ -3,3 +3,4 @@ pub mod Filters
 pub mod Kept
 pub mod Journals
 pub mod Rooms
+pub mod Published

@@ -34,18 +34,18 @@ part_times n (m ∷ ms) = sum_by-cons (once (same_owner (Part n))) (Part m) (map
 
 no_bucket : (n : ℕ) (ns : List ℕ) → count_by (same_owner (Part n)) (map Bucket ns) ≡ 0
 no_bucket n [] = refl
-no_bucket n (m ∷ ms) = sum_by-cons (once (same_owner (Part n))) (Bucket m) (map Bucket ms) ∙ no_bucket n ms
+no_bucket n (m ∷ ms) = omega (arith, sum_by-cons (once (same_owner (Part n))) (Bucket m) (map Bucket ms), no_bucket n ms)
 
 no_part : (n : ℕ) (ns : List ℕ) → count_by (same_owner (Bucket n)) (map Part ns) ≡ 0
 no_part n [] = refl
-no_part n (m ∷ ms) = sum_by-cons (once (same_owner (Bucket n))) (Part m) (map Part ms) ∙ no_part n ms
+no_part n (m ∷ ms) = omega (arith, sum_by-cons (once (same_owner (Bucket n))) (Part m) (map Part ms), no_part n ms)
 
 -- numbers that stand once are counted where they are
 once_there : (n : ℕ) (ns : List ℕ) → AreDistinct ns → count_by (λ k. k == n) ns ≡ cond (is_among ns n) 1 0
 once_there n ns distinct = counted (λ k. k == n) ns (omega (arith, distinct n, length-filter (λ (k : ℕ). k == n) ns))
 
 -- there is a cell
-interval_there : (scales : List (List ℕ)) (a : ℕ) → a < length (dims scales) → 1 ≤ slice_index (dims scales) a
+pub interval_there : (scales : List (List ℕ)) (a : ℕ) → a < length (dims scales) → 1 ≤ slice_index (dims scales) a
 interval_there [] a low = absurd (omega (arith, low))
 interval_there (s ∷ ss) zero low = omega arith
 interval_there (s ∷ ss) (suc a) low = interval_there ss a (omega (arith, low))

@@ -45,9 +45,12 @@ pub(crate) fn find_unused<const K: usize>(memory: &mut Memory<K>) -> u32
     ensures least { IsLeastUnused (books_of memory.old) result }
 {
     for number in memory.unused_from..memory.geometry.shape.pages {
-        if page_of(memory, Owner::Bucket(number)).is_none() {
-            memory.unused_from = number;
-            return number;
+        match page_of(memory, Owner::Bucket(number)) {
+            Some(_) => {}
+            None => {
+                memory.unused_from = number;
+                return number;
+            }
         }
     }
     unreachable!()
