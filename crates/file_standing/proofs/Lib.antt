@@ -1,0 +1,5 @@
+pub mod Blank
+pub mod Along
+pub mod Leading
+pub mod Following
+pub mod PageSteps

@@ -1,0 +1,15 @@
+//! The laws of where a file stands, as contracts of functions without code.
+ghost use Rattle.file_standing.specs.FileLaws.{ClaimedUnkept, FilesLead, PageStepsStay};
+
+/// The law of leading: each root that may be the newest leads to the standing of its file; and of a claimed page nothing
+/// is known, so that it may be written.
+pub fn lead_law<const K: usize>()
+    ensures leads { FilesLead K }
+    ensures unkept { ClaimedUnkept K }
+{}
+
+/// The law of page steps: sweeps, claims and what is given back leave a file where it stands, and a lone caller's state as
+/// it is.
+pub fn page_step_law<const K: usize>()
+    ensures { PageStepsStay K }
+{}
