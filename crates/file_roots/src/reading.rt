@@ -1,20 +1,17 @@
 //! The newest root of a file, from its header page and its table area.
-ghost use Rattle.std.specs.Prelude.{◌≡◌, ◌<◌, ◌≤◌, ◌+◌, ◌*◌, ℕ, length, replicate, IsTrue, IfOk, IsErrOf, OnErr};
+ghost use Rattle.std.specs.Prelude.{◌≡◌, ◌<◌, ◌≤◌, ◌+◌, ◌*◌, ℕ, replicate, IsTrue, IfOk, OnErr};
 ghost use Rattle.grid_types.specs.declared.sizes.TheConstants.{PAGE_BYTES};
-ghost use Rattle.grid_types.specs.declared.refusal.Refusal.TheVariants.{NoMemory, Damaged};
 ghost use Rattle.grid_types.specs.Shapes.{area_pages, file_pages};
-ghost use Rattle.grid_model.specs.Spellings.{RootFields};
-ghost use Rattle.grid_model.specs.Images.{IsNewest};
 ghost use Rattle.grid_model.specs.Lawful.{Area};
 ghost use Rattle.root_pages.specs.Fields.{model_fields};
 ghost use Rattle.linear_scales.specs.Limited.{limits_of};
 ghost use Rattle.disk_trait.specs.Calls.{OnlyReads, HasCauses};
-ghost use Rattle.grid_model.specs.Roots.{WholeRoot, AreRootFields, IsNewestWhole};
-ghost use Rattle.linear_scales.specs.Roots.{whole_of, IsRoot};
-ghost use Rattle.file_roots.specs.Damage.{HasAreaUpTo, IsRootDamage};
+ghost use Rattle.grid_model.specs.Roots.{AreRootFields};
+ghost use Rattle.linear_scales.specs.Roots.{IsRoot};
+ghost use Rattle.file_roots.specs.Damage.{HasAreaUpTo};
 ghost use Rattle.file_roots.specs.Gathering.{HasRoom, HasGathered};
 ghost use Rattle.file_roots.specs.Headers.{AreHeaderPages};
-ghost use Rattle.file_roots.specs.Reading.{Gathers, AreRootPagesGood, TellsNewest, TakesSteps};
+ghost use Rattle.file_roots.specs.Reading.{Gathers, TellsNewest, TakesSteps};
 ghost use Rattle.file_roots.specs.Refusals.{MayRefuseReading};
 
 use crate::choosing::choose;
