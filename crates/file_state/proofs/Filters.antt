@@ -74,3 +74,21 @@ among_passing p m n low = both_ways (is_among (filter p (below m)) n) (p n) (λ 
 -- and among all below it exactly where it is lower
 pub among_below : (m n : ℕ) → is_among (below m) n ≡ nat_lt n m
 among_below m n = both_ways (is_among (below m) n) (nat_lt n m) (λ e. let w = among-range 0 m n e in lt-ltb n m (omega (arith, w.1))) (λ e. let low : n < m = ltb-true n m e in range-among 0 m n (omega arith) (omega (arith, low)))
+
+-- below a number that passes fewer pass than below a higher one
+pub count_bound : (p : ℕ → Bool) (m n : ℕ) → m < n → p m ≡ true → length (filter p (below m)) < length (filter p (below n))
+count_bound p m zero low is = absurd (omega (arith, low))
+count_bound p m (suc n) low is = by (cases_eq m n) (λ less. count_bound p m n less is)
+  where
+    next : suc n ≡ n + 1
+    next = omega arith
+
+    more : length (filter p (below (suc n))) ≡ length (filter p (below n)) + cond (p n) 1 0
+    more = ap (λ (k : ℕ). length (filter p (below k))) next ∙ count-more p n
+
+    by : (m ≡ n) ⊎ (m ≢ n) → (m < n → length (filter p (below m)) < length (filter p (below n))) → length (filter p (below m)) < length (filter p (below (suc n)))
+    by (inl e) before =
+        let one : ◌≡◌ {A = ℕ} (cond (p n) 1 0) 1 = ap (λ (t : Bool). cond {A = ℕ} t 1 0) (ap p (sym e) ∙ is) in
+        let same : length (filter p (below m)) ≡ length (filter p (below n)) = ap (λ (k : ℕ). length (filter p (below k))) e in
+        omega (arith, more, one, same)
+    by (inr apart) before = omega (arith, more, before (omega (arith, low, apart)))

@@ -4,3 +4,6 @@ pub mod Kept
 pub mod Journals
 pub mod Rooms
 pub mod Published
+pub mod Scaling
+pub mod Walks
+pub mod Publishes

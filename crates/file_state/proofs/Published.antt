@@ -2,7 +2,7 @@
 use Rattle.std.proofs.Common.{◌≡◌, ◌⊎◌, inl, inr, ℕ, zero, suc, ◌+◌, ◌-◌, ◌<◌, ◌≤◌, List, [], ◌∷◌, ◌++◌, Bool, true, false, ◌||◌, cond, Option, Some, None, refl, sym, ◌∙◌, ap, subst, map, filter, length, max, min, arith, true≢false, IsTrue}
 use Rattle.std.specs.Prelude.{◌≢◌, ◌==◌, is_some, nat_lt}
 use Rattle.std.specs.List.{list_any, count_by}
-use Rattle.std.proofs.lemmas.Bool.{cases_eq, cases_le, cases_lt, eq-eqb, ne_eqb, eqb-true}
+use Rattle.std.proofs.lemmas.Bool.{cases_eq, cases_lt, eq-eqb, ne_eqb, eqb-true}
 use Rattle.std.proofs.lemmas.List.Folds.{list_any-append}
 use Rattle.grid_types.specs.declared.owner.Owner.{Owner}
 use Rattle.grid_types.specs.declared.owner.Owner.TheVariants.{Bucket, Part}
@@ -137,7 +137,7 @@ module _ (b : Books) (owners : OwnersHavePages b) (k : ℕ) (n : LayoutChange) (
   part_after p same = shown_is content_after no_bytes (b.front + 1) after served (Part p) ∙ same ∙ published (Part p) ∙ ap (λ (t : Bool). has_page b (Part p) || t) (renewed_part p)
 
 -- parts do not vanish
-no_part_vanishes : (c : Owner → Option (List ℕ)) (k : ℕ) (n : LayoutChange) (p : ℕ) → is_some (without_owners c (owners_vanishing k n) (Part p)) ≡ is_some (c (Part p))
+pub no_part_vanishes : (c : Owner → Option (List ℕ)) (k : ℕ) (n : LayoutChange) (p : ℕ) → is_some (without_owners c (owners_vanishing k n) (Part p)) ≡ is_some (c (Part p))
 no_part_vanishes c k note.Plain p = refl
 no_part_vanishes c k (note.Cut d right) p = refl
 no_part_vanishes c k (note.Merge m) p = refl
@@ -202,32 +202,32 @@ module _ (b : Books) (owners : OwnersHavePages b) (k : ℕ) (with_page : has_pag
 
   module _ (w : ℕ) (apart : w ≢ k) (other : has_page b (Bucket w) ≡ true) (is : (m : ℕ) → has m ≡ cond (m == max k w) false (has_page b (Bucket m) || is_among (min k w ∷ []) m)) where
     known_max : has_page b (Bucket (max k w)) ≡ true
-    known_max = elim (cases_le k w) [
-      | inl le ↦ ap (λ (j : ℕ). has_page b (Bucket j)) (omega (arith, le)) ∙ other
-      | inr lt ↦ ap (λ (j : ℕ). has_page b (Bucket j)) (omega (arith, lt)) ∙ with_page
+    known_max = elim (cases_lt w k) [
+      | inl lt ↦ let is_k : max k w ≡ k = omega (arith, lt) in ap (λ (j : ℕ). has_page b (Bucket j)) is_k ∙ with_page
+      | inr le ↦ let is_w : max k w ≡ w = omega (arith, le) in ap (λ (j : ℕ). has_page b (Bucket j)) is_w ∙ other
     ]
 
     known_min : has_page b (Bucket (min k w)) ≡ true
-    known_min = elim (cases_le k w) [
-      | inl le ↦ ap (λ (j : ℕ). has_page b (Bucket j)) (omega (arith, le)) ∙ with_page
-      | inr lt ↦ ap (λ (j : ℕ). has_page b (Bucket j)) (omega (arith, lt)) ∙ other
+    known_min = elim (cases_lt w k) [
+      | inl lt ↦ let is_w : min k w ≡ w = omega (arith, lt) in ap (λ (j : ℕ). has_page b (Bucket j)) is_w ∙ other
+      | inr le ↦ let is_k : min k w ≡ k = omega (arith, le) in ap (λ (j : ℕ). has_page b (Bucket j)) is_k ∙ with_page
     ]
 
     gone : has (max k w) ≡ false
     gone = is (max k w) ∙ ap (λ (t : Bool). cond t false (has_page b (Bucket (max k w)) || is_among (min k w ∷ []) (max k w))) (eq-eqb (max k w) (max k w) refl)
 
-    others : (m : ℕ) → m ≢ max k w → has m ≡ has_page b (Bucket m)
-    others m distinct =
+    others_kept : (m : ℕ) → m ≢ max k w → has m ≡ has_page b (Bucket m)
+    others_kept m distinct =
         is m ∙ ap (λ (t : Bool). cond t false (has_page b (Bucket m) || is_among (min k w ∷ []) m)) (ne_eqb m (max k w) distinct)
         ∙ or_known (has_page b (Bucket m)) (is_among (min k w ∷ []) m) (λ e. ap (λ (j : ℕ). has_page b (Bucket j)) (among_one (min k w) m e) ∙ known_min)
 
     fewer : length (filter (λ m. has_page b (Bucket m)) (below b.shape.pages)) ≡ length (filter has (below b.shape.pages)) + 1
-    fewer = count_added has (λ m. has_page b (Bucket m)) (max k w) b.shape.pages (owners.numbers (max k w) known_max) gone known_max (λ m distinct. sym (others m distinct))
+    fewer = count_added has (λ m. has_page b (Bucket m)) (max k w) b.shape.pages (owners.numbers (max k w) known_max) gone known_max (λ m distinct. sym (others_kept m distinct))
 
     left : 1 ≤ length (filter has (below b.shape.pages))
     left =
         let distinct : min k w ≢ max k w = λ e. apart (omega (arith, e)) in
-        count_some has (min k w) b.shape.pages (owners.numbers (min k w) known_min) (others (min k w) distinct ∙ known_min)
+        count_some has (min k w) b.shape.pages (owners.numbers (min k w) known_min) (others_kept (min k w) distinct ∙ known_min)
 
     pub merge : BucketsAfter b has k (note.Merge w)
     merge =
@@ -235,9 +235,9 @@ module _ (b : Books) (owners : OwnersHavePages b) (k : ℕ) (with_page : has_pag
         record {
           numbers = λ m e. elim (cases_eq m (max k w)) [
             | inl same ↦ absurd (true≢false (sym e ∙ ap has same ∙ gone))
-            | inr distinct ↦ owners.numbers m (sym (others m distinct) ∙ e)
+            | inr distinct ↦ owners.numbers m (sym (others_kept m distinct) ∙ e)
           ];
           count = omega (arith, fewer, before);
           some = omega (arith, fewer, before, left);
-          used = λ from used m less. others m (λ e. omega (arith, less, e)) ∙ used m (omega (arith, less));
+          used = λ from used m less. others_kept m (λ e. omega (arith, less, e)) ∙ used m (omega (arith, less));
         }

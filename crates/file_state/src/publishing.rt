@@ -1,10 +1,11 @@
 //! A change is published: its pages, its boundary, and what it does to the counts.
 ghost use Rattle.std.specs.Prelude.{◌≡◌, ◌<◌, ◌≤◌, ◌+◌, ◌^◌, ℕ, length, map};
 ghost use Rattle.grid_types.specs.declared.owner.Owner.TheVariants.{Bucket, Part};
+ghost use Rattle.grid_types.specs.declared.sizes.TheConstants.{MOST_ATTRIBUTES};
 ghost use Rattle.linear_scales.specs.Limited.{scales_of, limits_of};
 ghost use Rattle.directory_changes.specs.Changes.{parts_after, parts_changed, IsChangeOf};
-ghost use Rattle.page_states.specs.Changes.{ArePublishable, all_published};
-ghost use Rattle.layout_pages.specs.Steps.{buckets_renewed, owners_renewed, publications, published_states};
+ghost use Rattle.page_states.specs.Changes.{ArePublishable, all_published, all_vanished};
+ghost use Rattle.layout_pages.specs.Steps.{buckets_renewed, owners_renewed, owners_vanishing, publications, published_states};
 ghost use Rattle.file_books.specs.Effects.{published_books, scales_after_change, IsPublishable};
 ghost use Rattle.file_state.specs.Memories.{books_of, publishing_of, IsMemory};
 ghost use Rattle.file_state.specs.Publishings.{AreNumbersBelow, buckets_vanishing, TakesNote, unused_after};
@@ -62,7 +63,7 @@ fn publish_parts<const K: usize>(
     requires claimed { ArePublishable pages.now states.old }
     requires count { length pages.now ≡ length (parts_changed dims.now.intervals directory.now) }
     requires known { parts_after dims.now.intervals directory.now ≤ length states.old }
-    ensures states { states.new
+    ensures { states.new
         ≡ all_published at (publications (map Part (parts_changed dims.now.intervals directory.now)) pages.now) states.old }
 {
     if pages.is_empty() {
@@ -77,6 +78,18 @@ fn publish_parts<const K: usize>(
     }
 }
 
+/// The page of a bucket that vanishes ends.
+fn end_vanishing(states: &mut PageStates, bucket: u32, note: LayoutChange, at: u64)
+    requires { AreNumbersBelow (length states.old) (buckets_vanishing bucket note) }
+    ensures { states.new ≡ all_vanished at (owners_vanishing bucket note) states.old }
+{
+    match note {
+        LayoutChange::Plain => {}
+        LayoutChange::Cut { .. } => {}
+        LayoutChange::Merge { with } => states.vanish(Owner::Bucket(bucket.max(with)), at),
+    }
+}
+
 /// The new pages become current, and the page of a bucket that vanishes ends.
 fn publish_pages<const K: usize>(
     states: &mut PageStates,
@@ -85,6 +98,7 @@ fn publish_pages<const K: usize>(
     pages: &[u32],
     at: u64,
 )
+    requires attributes { K ≤ MOST_ATTRIBUTES }
     requires change { IsChangeOf dims.now.intervals change.now.directory }
     requires claimed { ArePublishable pages.now states.old }
     requires count { length pages.now ≡ length (owners_renewed change.now.bucket change.now.note
@@ -97,9 +111,7 @@ fn publish_pages<const K: usize>(
 {
     let count = publish_buckets(states, change.bucket, change.note, pages, at);
     publish_parts(states, dims, &change.directory, &pages[count..], at);
-    if let LayoutChange::Merge { with } = change.note {
-        states.vanish(Owner::Bucket(change.bucket.max(with)), at);
-    }
+    end_vanishing(states, change.bucket, change.note, at);
 }
 
 /// A fresh boundary joins its scale.
