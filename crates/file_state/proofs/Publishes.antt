@@ -15,16 +15,19 @@ use Rattle.page_states.specs.Changes.{with_pages, without_owners, all_published,
 use Rattle.page_states.proofs.PagesStay.{pages_stay}
 use Rattle.layout_pages.specs.Steps.{publications, buckets_renewed, owners_renewed, owners_vanishing, published_states}
 use Rattle.linear_scales.specs.Limited.{LimitedScale, scales_of, limits_of}
-use Rattle.directory_changes.specs.Changes.{parts_changed}
+use Rattle.directory_changes.specs.Changes.{parts_after, parts_changed}
 use Rattle.file_books.specs.Books.{Books, has_page, AreBooksOf, OwnersHavePages}
 use Rattle.file_books.specs.Effects.{Publishing, IsPublishable, HasOther, buckets_after, records_after, scales_after_change, published_books, parts_renewed}
 use Rattle.file_books.specs.declared.record_change.RecordChange.{RecordChange}
 use Rattle.file_books.specs.declared.record_change.RecordChange.TheVariants.{More, Same, Fewer}
-use Rattle.file_state.specs.Memories.{AreUsedBelow}
+use Rattle.file_state.specs.declared.memory.Memory.{Memory}
+use Rattle.file_state.specs.declared.change.Change.{Change}
+use Rattle.file_state.specs.Memories.{AreUsedBelow, IsMemory, books_of, publishing_of}
 use Rattle.file_state.specs.Publishings.{AreNumbersBelow, buckets_vanishing, unused_after}
 use Rattle.file_state.proofs.Shown.{content_at, no_bytes}
 use Rattle.file_state.proofs.Scaling as scaling
 use Rattle.file_state.proofs.Published.{BucketsAfter, plain, cut, merge, settled_after, one_after, bucket_after, bucket_published, part_after, no_part_vanishes}
+use Rattle.file_state.proofs.Rooms.{fewer_parts}
 use Rattle.file_state.proofs.Walks.{published_length}
 
 few_records : (most n : ℕ) (x : RecordChange) → records_after most n x ≤ most
@@ -120,3 +123,28 @@ module _ {K : ℕ} (b : Books) (x : Publishing K) (is : AreBooksOf K b) (may : I
   pub used_published : (from : ℕ) → AreUsedBelow b from → AreUsedBelow (published_books b x) (unused_after from x.bucket x.note)
   unfolding has
   used_published from used = buckets_published.used from used
+
+  -- there are no more directory parts then than data pages
+  pub parts_have_room : parts_after (dims b.scales) x.directory ≤ b.shape.pages
+  parts_have_room = omega (arith, fewer_parts (published_books b x) books_published.size owners_published, scaling.parts_agree b.shape b.scales is.scales x.note x.directory may.kind may.fresh may.directory)
+
+-- what memory keeps after a publication is lawful
+pub memory_published : {K : ℕ} (m : Memory K) (x : Change K) (ps : List ℕ) (ns : List ℕ) (records most buckets used : ℕ) (ss : List LimitedScale) (states : List PageState) → IsMemory m → IsPublishable (books_of m) (publishing_of x ps)
+    → ns ≡ dims (scales_of m.scales) → buckets ≡ buckets_after m.counts.buckets x.note → most ≡ buckets * m.geometry.shape.capacity → records ≡ records_after most m.counts.records x.records
+    → scales_of ss ≡ scales_after_change (scales_of m.scales) x.note → limits_of ss ≡ limits_of m.scales → states ≡ published_states (m.counts.front + 1) x.bucket x.note (parts_changed ns x.directory) ps m.pages
+    → used ≡ unused_after m.unused_from x.bucket x.note
+    → IsMemory (record m { counts = record m.counts { front = m.counts.front + 1; records = records; buckets = buckets }; scales = ss; pages = states; unused_from = used })
+memory_published {K} m x ps ns records most buckets used ss states is may e_dims e_buckets e_most e_records e_scales e_limits e_states e_used = record {
+  books = subst (AreBooksOf K) (sym same) (books_published (books_of m) (publishing_of x ps) is.books may);
+  limits = e_limits ∙ is.limits;
+  used = subst (λ (b : Books). AreUsedBelow b used) (sym same) (subst (AreUsedBelow (published_books (books_of m) (publishing_of x ps))) (sym e_used) (used_published (books_of m) (publishing_of x ps) is.books may m.unused_from is.used));
+}
+  where
+    counted : records ≡ records_after (buckets_after m.counts.buckets x.note * m.geometry.shape.capacity) m.counts.records x.records
+    counted = e_records ∙ ap (λ (n : ℕ). records_after n m.counts.records x.records) (e_most ∙ ap (λ (n : ℕ). n * m.geometry.shape.capacity) e_buckets)
+
+    paged : states ≡ published_states (m.counts.front + 1) x.bucket x.note (parts_changed (dims (scales_of m.scales)) x.directory) ps m.pages
+    paged = e_states ∙ ap (λ (k : List ℕ). published_states (m.counts.front + 1) x.bucket x.note (parts_changed k x.directory) ps m.pages) e_dims
+
+    same : record (books_of m) { front = m.counts.front + 1; records = records; buckets = buckets; scales = scales_of ss; pages = states } ≡ published_books (books_of m) (publishing_of x ps)
+    same = λ i. record (books_of m) { front = m.counts.front + 1; records = counted i; buckets = e_buckets i; scales = e_scales i; pages = paged i }
