@@ -3,3 +3,9 @@ pub mod Along
 pub mod Leading
 pub mod Following
 pub mod PageSteps
+pub mod Books
+pub mod Moving
+pub mod NextRoot
+pub mod RootSteps
+pub mod RootAlone
+pub mod Tallies

@@ -1,5 +1,5 @@
 //! The laws of where a file stands, as contracts of functions without code.
-ghost use Rattle.file_standing.specs.FileLaws.{ClaimedUnkept, FilesLead, PageStepsStay};
+ghost use Rattle.file_standing.specs.FileLaws.{ClaimedUnkept, FilesLead, PageStepsStay, RootStepStands};
 
 /// The law of leading: each root that may be the newest leads to the standing of its file; and of a claimed page nothing
 /// is known, so that it may be written.
@@ -12,4 +12,10 @@ pub fn lead_law<const K: usize>()
 /// it is.
 pub fn page_step_law<const K: usize>()
     ensures { PageStepsStay K }
+{}
+
+/// The law of root steps: they leave a file where it stands at each of their points, and a lone caller's state as the one
+/// after a root step.
+pub fn root_step_law<const K: usize>()
+    ensures { RootStepStands K }
 {}
