@@ -25,6 +25,11 @@ used-other b zero (suc j) n two too apart = refl
 used-other b (suc h) zero n two too apart = refl
 used-other b (suc h) (suc j) n two too apart = absurd (apart (omega (arith, two, too)))
 
+-- books with the same used slots have as many of each half
+pub used-alike : (b c : Books) (h : ℕ) → b.first_used ≡ c.first_used → b.second_used ≡ c.second_used → used_of b h ≡ used_of c h
+used-alike b c zero one two = one
+used-alike b c (suc h) one two = two
+
 -- the half that is not current
 abbrev idle : ℕ → ℕ
 idle h = cond (h == 0) 1 0

@@ -54,13 +54,13 @@ module _ {K : ℕ} (b : Books) (k : Kept K) (m : Standing K) (hold : BooksHold b
   abbrev s : State K
   s = state_along w x
 
-  pub at : IsAt s m
-  at = at-standing k w m x f.along
+  pub is-at : IsAt s m
+  is-at = at-standing k w m x f.along
 
   pub counted-along : AreCounted b.shape b.pages k.always b.front w.fields.front s
   counted-along = record {
-    stands = subst (λ (p : Layout K × Table). StandsOver b.shape p.0 p.1) (λ i. (sym at.layout i, sym at.table i)) hold.stands;
-    holds = subst (λ (p : Layout K × Table). HoldLayout b.pages k.always b.front p.0 p.1) (λ i. (sym at.layout i, sym at.table i)) hold.holds;
+    stands = subst (λ (p : Layout K × Table). StandsOver b.shape p.0 p.1) (λ i. (sym is-at.layout i, sym is-at.table i)) hold.stands;
+    holds = subst (λ (p : Layout K × Table). HoldLayout b.pages k.always b.front p.0 p.1) (λ i. (sym is-at.layout i, sym is-at.table i)) hold.holds;
     size = hold.size;
     counts = f.counts;
   }
@@ -76,14 +76,14 @@ module _ {K : ℕ} (b : Books) (k : Kept K) (m : Standing K) (hold : BooksHold b
 
     -- its pages and those of the layout are data pages
     pub room : length m.layout.boxes + parts m.layout.scales + how_many (renewed m.layout e n) ≤ b.shape.pages
-    room = omega (arith, all-fit, ap (λ (L : Layout K). length L.boxes) at.layout, ap (λ (L : Layout K). parts L.scales) at.layout, as-many, claimed-many pages b.pages wr.claimed)
+    room = omega (arith, all-fit, ap (λ (L : Layout K). length L.boxes) is-at.layout, ap (λ (L : Layout K). parts L.scales) is-at.layout, as-many, claimed-many pages b.pages wr.claimed)
 
     may-redo : MayRedo b.shape s (record { update = u; note = n })
     may-redo = record {
-      lawful = subst (λ (p : Layout K × Table). IsLawfulNote b.shape p.0 p.1 u n) (λ i. (sym at.layout i, sym at.table i)) wr.change.lawful;
+      lawful = subst (λ (p : Layout K × Table). IsLawfulNote b.shape p.0 p.1 u n) (λ i. (sym is-at.layout i, sym is-at.table i)) wr.change.lawful;
       pages = λ d found.
-          let same : d ≡ e = one-value d e (sym found ∙ ap (λ (L : Layout K). holder L (updated_key u)) at.layout ∙ wr.change.holds) in
-          let many : how_many (renewed s.layout d n) ≡ how_many (renewed m.layout e n) = λ i. how_many (renewed (at.layout i) (same i) n) in
+          let same : d ≡ e = one-value d e (sym found ∙ ap (λ (L : Layout K). holder L (updated_key u)) is-at.layout ∙ wr.change.holds) in
+          let many : how_many (renewed s.layout d n) ≡ how_many (renewed m.layout e n) = λ i. how_many (renewed (is-at.layout i) (same i) n) in
           omega (arith, all-fit, many, as-many, claimed-many pages b.pages wr.claimed);
     }
 

@@ -9,3 +9,4 @@ pub mod NextRoot
 pub mod RootSteps
 pub mod RootAlone
 pub mod Tallies
+pub mod Committing

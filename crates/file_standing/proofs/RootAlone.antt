@@ -15,14 +15,9 @@ use Rattle.file_standing.specs.Files.{state_along, Follows, IsFile, IsAlone}
 use Rattle.file_standing.specs.Steps.{turned_kept, cleaned_kept, IsNextRoot}
 use Rattle.file_standing.specs.FileLaws.{RootStepStands}
 use Rattle.file_standing.proofs.Along.{at-standing}
-use Rattle.file_standing.proofs.Books.{books_used, used-here, used-other, idle-half-two, idle-half-apart}
+use Rattle.file_standing.proofs.Books.{used-alike, used-here, used-other, idle-half-two, idle-half-apart}
 use Rattle.file_standing.proofs.NextRoot.{new-follows}
 use Rattle.file_standing.proofs.RootSteps.{closed-file, turned-file, tried-file, rooted-file, loose-file, cleaned-file, turned_at, turned_with, rooted-follows, cleaned_at, cleaned_with, cleaned-form, cleaned-follows}
-
--- books with the same used slots have as many of each half
-used-alike : (b c : Books) (h : ℕ) → b.first_used ≡ c.first_used → b.second_used ≡ c.second_used → used_of b h ≡ used_of c h
-used-alike b c zero one two = one
-used-alike b c (suc h) one two = two
 
 module _ {K : ℕ} (b : Books) (k : Kept K) (m : Standing K) (s : State K) (w : WholeRoot) (is : IsFile b k m) (alone : IsAlone b k m s) (next : IsNextRoot b w) where
   -- the books and what is kept, where the other header page is closed and the halves' roles are exchanged, as the other one is clear

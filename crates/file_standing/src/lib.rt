@@ -4,4 +4,4 @@
 
 mod laws;
 
-pub use laws::{lead_law, page_step_law, root_step_law};
+pub use laws::{commit_law, lead_law, page_step_law, root_step_law};
