@@ -135,6 +135,13 @@ next-is-cell p b next c long inside = record {
 pub moved : {K : ℕ} {q : Query K} {b : CellBox K} {room : Room K} {start now : ℕ} {H : Table → Type 0} (p r : Place) (i j : ℕ) → p ≡ r → i ≡ j → IsWalked p q b i room start now H → IsWalked r q b j room start now H
 moved {K} {q} {b} {room} {start} {now} {H} p r i j e f w = subst (λ (k : ℕ). IsWalked r q b k room start now H) f (subst (λ (x : Place). IsWalked x q b i room start now H) e w)
 
+-- so a visit of a cell, which is made at the same place and knows the cell by its index, goes on with the walk
+pub visited-on : {K : ℕ} (p there : Place) (q : Query K) (b : CellBox K) (old new : Room K) (start before now : ℕ) (H H' : Table → Type 0) (cell : List ℕ) (i : ℕ) → there ≡ p → i ≡ cell_index (dims p.scales) cell
+    → IsWalked p q b (cell_index (dims p.scales) cell) old start before H → (IsWalked there q b i old start before H → IsWalked there q b (i + 1) new start now H') → IsWalked p q b (cell_index (dims p.scales) cell + 1) new start now H'
+visited-on {K} p there q b old new start before now H H' cell i same at w visit =
+    let begun = moved {K = K} {q = q} {b = b} {room = old} {start = start} {now = before} {H = H} p there (cell_index (dims p.scales) cell) i (sym same) (sym at) w in
+    moved {K = K} {q = q} {b = b} {room = new} {start = start} {now = now} {H = H'} there p (i + 1) (cell_index (dims p.scales) cell + 1) same (ap (λ n. n + 1) at) (visit begun)
+
 -- the box whose corners are those of the cells that a query meets is theirs
 pub box-is : {K : ℕ} (scales : List (List ℕ)) (q : Query K) (b : CellBox K) → b.lo ≡ lowest_cell scales q.sides → b.hi ≡ highest_cell scales q.sides → b ≡ cells_met scales q
 box-is scales q b low high = λ i. record { lo = low i; hi = high i }

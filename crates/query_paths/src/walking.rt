@@ -35,7 +35,8 @@ fn has_corners<const K: usize>(region: &Region<K>, keys: &Region<K>) -> bool
 
 /// The same sides. As an array of its own it is known to have one for each attribute.
 pub fn counted<const K: usize>(sides: &[Side; K]) -> &[Side]
-    ensures { length sides.now ≡ K }
+    ensures same { result.now ≡ sides.now }
+    ensures count { length sides.now ≡ K }
 {
     sides
 }

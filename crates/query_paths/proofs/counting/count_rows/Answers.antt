@@ -30,18 +30,18 @@ returns-in_err-walk-clause-reads g c = λ L t pin.
     let p = place g.Q.Pinned c.args.pinned.now in
     let e = err_from_is_err_and c.from_residual.result c.from_residual.ensures.1 in
     let cut = rw c.in_err-walk.was at (c.walk.ensures.reads L t pin) in
-    subst (λ (r : Result ℕ Refusal). MakesSteps (pages_of_query L c.args.query.now) c.args.steps.now c.walk.new.steps r) (sym e.1) (cut.least, cut-within p L t pin c.args.query.now c.counted-sides.ensures c.requires.lawful c.walk.ensures.met c.args.steps.now c.walk.new.steps cut)
+    subst (λ (r : Result ℕ Refusal). MakesSteps (pages_of_query L c.args.query.now) c.args.steps.now c.walk.new.steps r) (sym e.1) (cut.least, cut-within p L t pin c.args.query.now c.counted-sides.ensures.count c.requires.lawful c.walk.ensures.met c.args.steps.now c.walk.new.steps cut)
 
 pub returns-clause-answer : goal.returns-clause-answer
 returns-clause-answer g c = λ L t pin.
     let p = place g.Q.Pinned c.args.pinned.now in
-    let w = found-whole p L t pin c.args.query.now c.counted-sides.ensures c.requires.lawful c.in_ok-walk.ensures.met c.args.steps.now c.walk.new.steps _ c.in_ok-walk.ensures.walked in
+    let w = found-whole p L t pin c.args.query.now c.counted-sides.ensures.count c.requires.lawful c.in_ok-walk.ensures.met c.args.steps.now c.walk.new.steps _ c.in_ok-walk.ensures.walked in
     w.holds_found ∙ count-all w.found (rows t c.args.query.now) w.same
 
 pub returns-clause-reads : goal.returns-clause-reads
 returns-clause-reads g c = λ L t pin.
     let p = place g.Q.Pinned c.args.pinned.now in
-    let w = found-whole p L t pin c.args.query.now c.counted-sides.ensures c.requires.lawful c.in_ok-walk.ensures.met c.args.steps.now c.walk.new.steps _ c.in_ok-walk.ensures.walked in
+    let w = found-whole p L t pin c.args.query.now c.counted-sides.ensures.count c.requires.lawful c.in_ok-walk.ensures.met c.args.steps.now c.walk.new.steps _ c.in_ok-walk.ensures.walked in
     w.steps
 
 pub returns-clause-judged : goal.returns-clause-judged

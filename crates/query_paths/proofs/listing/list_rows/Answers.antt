@@ -32,19 +32,19 @@ returns-in_err-walk-clause-reads g c = λ L t pin.
     let p = place g.Q.Pinned c.args.pinned.now in
     let e = err_from_is_err_and c.from_residual.result c.from_residual.ensures.1 in
     let cut = rw c.in_err-walk.was at (c.walk.ensures.reads L t pin) in
-    subst (λ (r : Result (List (Record g.row.K)) Refusal). MakesSteps (pages_of_query L c.args.query.now) c.args.steps.now c.walk.new.steps r) (sym e.1) (cut.least, cut-within p L t pin c.args.query.now c.counted-sides.ensures c.requires.lawful c.walk.ensures.met c.args.steps.now c.walk.new.steps cut)
+    subst (λ (r : Result (List (Record g.row.K)) Refusal). MakesSteps (pages_of_query L c.args.query.now) c.args.steps.now c.walk.new.steps r) (sym e.1) (cut.least, cut-within p L t pin c.args.query.now c.counted-sides.ensures.count c.requires.lawful c.walk.ensures.met c.args.steps.now c.walk.new.steps cut)
 
 pub returns-clause-answer : goal.returns-clause-answer
 returns-clause-answer g c = λ L t pin.
     let p = place g.Q.Pinned c.args.pinned.now in
     let q = c.args.query.now in
-    let w = found-whole p L t pin q c.counted-sides.ensures c.requires.lawful c.in_ok-walk.ensures.met c.args.steps.now c.walk.new.steps _ c.in_ok-walk.ensures.walked in
+    let w = found-whole p L t pin q c.counted-sides.ensures.count c.requires.lawful c.in_ok-walk.ensures.met c.args.steps.now c.walk.new.steps _ c.in_ok-walk.ensures.walked in
     listing-is c.walk.new.gathering.rows c.sort.new.self (rows t q) c.sort.ensures.same c.sort.ensures.sorted (rows-ascend t q pin.stands.table) (λ test. ap (λ (s : Table). count_by test s) w.holds_found ∙ w.same test)
 
 pub returns-clause-reads : goal.returns-clause-reads
 returns-clause-reads g c = λ L t pin.
     let p = place g.Q.Pinned c.args.pinned.now in
-    let w = found-whole p L t pin c.args.query.now c.counted-sides.ensures c.requires.lawful c.in_ok-walk.ensures.met c.args.steps.now c.walk.new.steps _ c.in_ok-walk.ensures.walked in
+    let w = found-whole p L t pin c.args.query.now c.counted-sides.ensures.count c.requires.lawful c.in_ok-walk.ensures.met c.args.steps.now c.walk.new.steps _ c.in_ok-walk.ensures.walked in
     w.steps
 
 pub returns-clause-judged : goal.returns-clause-judged

@@ -1,4 +1,4 @@
-use Rattle.std.proofs.Common.{◌≡◌, ◌<◌, ◌+◌, ◌↔◌, ℕ, Bool, false, All, List, length, refl, sym, ap, ◌∙◌, subst, arith, rules}
+use Rattle.std.proofs.Common.{◌≡◌, ◌<◌, ◌↔◌, ℕ, Bool, false, All, List, length, refl, sym, ap, ◌∙◌, subst, arith, rules}
 use Rattle.std.proofs.lemmas.List.{length-replicate}
 use Rattle.std.proofs.lemmas.Result.{err_from_is_err_and}
 use Rattle.grid_model.specs.Cells.{dims, cell_index, InCellBox}
@@ -10,14 +10,14 @@ use Rattle.linear_scales.specs.Queries.{MeetsQuery}
 use Rattle.query_paths.specs.Pinned.{Place}
 use Rattle.query_paths.specs.Calls.{place}
 use Rattle.query_paths.specs.Walks.{IsBoxCell, IsHeldGood, IsWalked, HasCellCause, cells_met}
-use Rattle.query_paths.proofs.Stepping.{first-in, begun, walked-on, whole, next-is-cell, highest-is-cell, moved, box-is, query-cause}
+use Rattle.query_paths.proofs.Stepping.{visited-on, first-in, begun, walked-on, whole, next-is-cell, highest-is-cell, box-is, query-cause}
 use Rattle.query_paths.proofs.walking.walk.Goals as goal
 
 pub cells-init : goal.cells-init
 cells-init g c =
     let p = place g.Q.Pinned c.args.pinned.now in
     let q = c.args.query.now in
-    let sides = c.counted-sides.ensures in
+    let sides = c.counted-sides.ensures.count in
     let lowest = c.cells_of-cells.ensures.lowest in
     record {
       same = record { same_place = refl; same_rest = g.met.Q.Pinned.stays_self c.args.pinned.now };
@@ -78,7 +78,7 @@ next-requires g c =
     let q = c.args.query.now in
     let was = c.cells.invariant in
     let box = box-is p.scales q c.cells_of-cells.result c.cells_of-cells.ensures.lowest c.cells_of-cells.ensures.highest in
-    let high = highest-is-cell p q c.dims-dims.ensures.count c.counted-sides.ensures c.requires.lawful in (
+    let high = highest-is-cell p q c.dims-dims.ensures.count c.counted-sides.ensures.count c.requires.lawful in (
       search rules,
       (
         search rules,
@@ -100,15 +100,13 @@ cells-preserved g c =
     let cell = c.cells.cell in
     let b = cells_met p.scales q in
     let H = g.G.Gather.holds c.visit_cell.new.gathering in
-    let mid = place g.Q.Pinned c.cells.pinned in
     let to = was.same.same_place in
     let at : c.index-index.result ≡ cell_index (dims p.scales) cell = c.index-index.ensures.value ∙ ap (λ (ns : List ℕ). cell_index ns cell) c.dims-dims.ensures.value in
-    let begun_here = moved {K = g.row.K} {q = q} {b = b} {room = c.cells.room} {start = c.args.steps.now} {now = c.cells.steps} {H = g.G.Gather.holds c.cells.gathering} p mid (cell_index (dims p.scales) cell) c.index-index.result (sym to) (sym at) was.walked in
-    let visited = moved {K = g.row.K} {q = q} {b = b} {room = c.visit_cell.new.room} {start = c.args.steps.now} {now = c.visit_cell.new.steps} {H = H} mid p (c.index-index.result + 1) (cell_index (dims p.scales) cell + 1) to (ap (λ n. n + 1) at) (c.in_ok-visit_cell.ensures.walked b c.args.steps.now was.is_in.inside begun_here) in
+    let visited = visited-on p (place g.Q.Pinned c.cells.pinned) q b c.cells.room c.visit_cell.new.room c.args.steps.now c.cells.steps c.visit_cell.new.steps (g.G.Gather.holds c.cells.gathering) H cell c.index-index.result was.same.same_place at was.walked (c.in_ok-visit_cell.ensures.walked b c.args.steps.now was.is_in.inside) in
     let box = box-is p.scales q c.cells_of-cells.result c.cells_of-cells.ensures.lowest c.cells_of-cells.ensures.highest in
     let next = subst (λ (x : CellBox g.row.K). IsNextInCellBox (dims p.scales) x cell c.in-Some.next) box (subst (λ (ns : List ℕ). IsNextInCellBox ns c.cells_of-cells.result cell c.in-Some.next) c.dims-dims.ensures.value c.in-Some.ensures) in
-    let high = highest-is-cell p q c.dims-dims.ensures.count c.counted-sides.ensures c.requires.lawful in
-    let long : length b.lo ≡ length b.hi = (first-in p q c.dims-dims.ensures.count c.counted-sides.ensures c.requires.lawful).is_cell.count ∙ sym high.count in
+    let high = highest-is-cell p q c.dims-dims.ensures.count c.counted-sides.ensures.count c.requires.lawful in
+    let long : length b.lo ≡ length b.hi = (first-in p q c.dims-dims.ensures.count c.counted-sides.ensures.count c.requires.lawful).is_cell.count ∙ sym high.count in
     record {
       same = record { same_place = c.in_ok-visit_cell.ensures.same.same_place ∙ to; same_rest = g.met.Q.Pinned.stays_on c.args.pinned.now c.cells.pinned c.visit_cell.new.pinned was.same.same_rest c.in_ok-visit_cell.ensures.same.same_rest };
       later = omega (arith, was.later, c.in_ok-visit_cell.ensures.cause.later);
@@ -126,11 +124,8 @@ returns-in-None-clause-walked g c =
     let cell = c.cells.cell in
     let b = cells_met p.scales q in
     let H = g.G.Gather.holds c.visit_cell.new.gathering in
-    let mid = place g.Q.Pinned c.cells.pinned in
-    let to = was.same.same_place in
     let at : c.index-index.result ≡ cell_index (dims p.scales) cell = c.index-index.ensures.value ∙ ap (λ (ns : List ℕ). cell_index ns cell) c.dims-dims.ensures.value in
-    let begun_here = moved {K = g.row.K} {q = q} {b = b} {room = c.cells.room} {start = c.args.steps.now} {now = c.cells.steps} {H = g.G.Gather.holds c.cells.gathering} p mid (cell_index (dims p.scales) cell) c.index-index.result (sym to) (sym at) was.walked in
-    let visited = moved {K = g.row.K} {q = q} {b = b} {room = c.visit_cell.new.room} {start = c.args.steps.now} {now = c.visit_cell.new.steps} {H = H} mid p (c.index-index.result + 1) (cell_index (dims p.scales) cell + 1) to (ap (λ n. n + 1) at) (c.in_ok-visit_cell.ensures.walked b c.args.steps.now was.is_in.inside begun_here) in
+    let visited = visited-on p (place g.Q.Pinned c.cells.pinned) q b c.cells.room c.visit_cell.new.room c.args.steps.now c.cells.steps c.visit_cell.new.steps (g.G.Gather.holds c.cells.gathering) H cell c.index-index.result was.same.same_place at was.walked (c.in_ok-visit_cell.ensures.walked b c.args.steps.now was.is_in.inside) in
     let box = box-is p.scales q c.cells_of-cells.result c.cells_of-cells.ensures.lowest c.cells_of-cells.ensures.highest in
     let last = subst (λ (x : CellBox g.row.K). IsLastInCellBox (dims p.scales) x cell) box (subst (λ (ns : List ℕ). IsLastInCellBox ns c.cells_of-cells.result cell) c.dims-dims.ensures.value c.in-None.ensures) in
     whole p q b c.visit_cell.new.room c.args.steps.now c.visit_cell.new.steps H cell visited last
