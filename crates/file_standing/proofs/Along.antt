@@ -1,5 +1,5 @@
 -- A lone caller's state behind updates that may be taken: its table, its layout and its front are those that the updates make.
-use Rattle.std.proofs.Common.{◌≡◌, ◌<◌, ◌≤◌, ◌+◌, ◌++◌, ◌^◌, inl, inr, ℕ, zero, suc, true, List, [], ◌∷◌, length, fold, slice_index, nat_le, Option, Some, None, IsSome, is_some, IsTrue, refl, sym, ap, subst, ◌∙◌, arith, true≢false}
+use Rattle.std.proofs.Common.{◌≡◌, ◌≤◌, ◌+◌, ◌++◌, inl, inr, ℕ, zero, suc, true, List, [], ◌∷◌, length, fold, slice_index, nat_le, Option, Some, None, IsSome, refl, sym, ap, subst, ◌∙◌, arith, true≢false}
 use Rattle.std.specs.Option.{option_map_or}
 use Rattle.std.proofs.lemmas.Bool.{cases_lt}
 use Rattle.std.proofs.lemmas.List.{length-append}
@@ -17,12 +17,11 @@ use Rattle.grid_types.specs.Keys.{IsKey}
 use Rattle.grid_types.specs.Regions.{contains, IsRegion}
 use Rattle.grid_types.proofs.Numbers.{second, each-at-most, as-long}
 use Rattle.grid_model.specs.Cells.{parts}
-use Rattle.grid_model.specs.Tables.{Table, IsData, get, effect}
+use Rattle.grid_model.specs.Tables.{Table, IsData, get}
 use Rattle.grid_model.specs.Layouts.{BucketBox, Layout, holder}
 use Rattle.grid_model.specs.LayoutLaws.{StandsOver}
-use Rattle.grid_model.specs.Lawful.{IsUpdateOf}
 use Rattle.grid_model.specs.LoneLaws.{IsState}
-use Rattle.grid_model.specs.Notes.{updated_key, put_note, after_note_at, IsLawfulNote}
+use Rattle.grid_model.specs.Notes.{updated_key, after_note_at, IsLawfulNote}
 use Rattle.grid_model.specs.Lone.{State, opened, published, free, how_many, renewed, dropped, among, outside}
 use Rattle.grid_model.specs.Images.{redo, logged_effect, layout_after, MayRedo, MayRedoAll}
 use Rattle.grid_model.specs.Roots.{WholeRoot}

@@ -1,5 +1,5 @@
 -- A table whose records have no data: which notes are lawful and how layouts stand depends on keys alone.
-use Rattle.std.proofs.Common.{◌≡◌, ◌<◌, ◌≤◌, ◌+◌, ◌*◌, ◌/◌, inl, inr, ℕ, Bool, true, false, cond, not, ◌&&◌, ◌||◌, T, List, [], ◌∷◌, map, length, Option, Some, None, is_some, refl, sym, ap, subst, ◌∙◌, arith, true≢false, nat_le, nat_lt, is_eq, is_lt}
+use Rattle.std.proofs.Common.{◌≡◌, ◌+◌, ◌*◌, ◌/◌, inl, inr, ℕ, Bool, true, false, cond, not, ◌&&◌, ◌||◌, T, List, [], ◌∷◌, map, length, Option, Some, None, is_some, refl, sym, ap, subst, ◌∙◌, arith, true≢false, nat_le, nat_lt, is_lt}
 use Rattle.std.specs.Prelude.{Contains}
 use Rattle.std.specs.Option.{option_and_then, option_map, option_map_or}
 use Rattle.std.specs.List.{filter_map}
@@ -16,12 +16,12 @@ use Rattle.grid_types.specs.declared.update.Update.{Update}
 use Rattle.grid_types.specs.declared.update.Update.TheVariants.{Put, Remove}
 use Rattle.grid_types.specs.Keys.{key_cmp, IsKey}
 use Rattle.grid_types.specs.Regions.{contains, make_a_box}
-use Rattle.grid_model.specs.Tables.{Table, IsTable, IsData, get, with_data, without, effect}
+use Rattle.grid_model.specs.Tables.{Table, get, with_data, without, effect}
 use Rattle.grid_model.specs.Layouts.{BucketBox, Layout, holder, records_inside}
 use Rattle.grid_model.specs.LayoutLaws.{StandsOver}
 use Rattle.grid_model.specs.Cuts.{cut}
-use Rattle.grid_model.specs.Neighbours.{Direction, directions, neighbour, joins, if_joins, can_join, partners}
-use Rattle.grid_model.specs.Notes.{updated_key, put_note, put_note_at, cut_note, keys_with, merges, merges_at, IsLawfulNote}
+use Rattle.grid_model.specs.Neighbours.{Direction, directions, neighbour, joins, partners}
+use Rattle.grid_model.specs.Notes.{updated_key, put_note, put_note_at, cut_note, keys_with, merges, IsLawfulNote}
 use Rattle.grid_model.proofs.Boxes.{one-value, some-not-none}
 use Rattle.grid_model.proofs.LayoutKept.{kept-layout}
 

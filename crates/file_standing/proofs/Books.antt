@@ -1,5 +1,5 @@
 -- What a step makes of the used slots of a half, in the books and in what is kept.
-use Rattle.std.proofs.Common.{◌≡◌, ◌≢◌, ◌<◌, ◌≤◌, ◌+◌, ◌==◌, ℕ, zero, suc, Bool, true, false, cond, List, [], ◌∷◌, map, length, refl, sym, ap, ◌∙◌, arith}
+use Rattle.std.proofs.Common.{◌≡◌, ◌≢◌, ◌<◌, ◌+◌, ◌==◌, ℕ, zero, suc, Bool, true, false, cond, List, map, length, refl, arith}
 use Rattle.std.proofs.lemmas.List.{length-map}
 use Rattle.file_images.specs.Kept.{PlacedBatch}
 use Rattle.file_images.specs.Steps.{first_with, second_with, first_by, second_by, other_half, none_used, loosened}

@@ -1,14 +1,13 @@
 -- Once a change is committed and published, a file stands behind it.
-use Rattle.std.proofs.Common.{◌≡◌, ◌≢◌, ◌<◌, ◌≤◌, ◌+◌, ◌*◌, inl, inr, ℕ, zero, suc, List, [], ◌∷◌, fold, map, length, replicate, slice_index, Option, Some, None, refl, sym, ap, subst, ◌∙◌, arith}
-use Rattle.std.specs.Prelude.{slice_get, slice_set, slice_index_or, Contains}
+use Rattle.std.proofs.Common.{◌≡◌, ◌<◌, ◌≤◌, ◌+◌, ◌*◌, inl, inr, ℕ, List, [], ◌∷◌, fold, map, length, replicate, slice_index, Option, None, refl, sym, ap, subst, ◌∙◌, arith}
+use Rattle.std.specs.Prelude.{slice_get}
 use Rattle.std.proofs.lemmas.List.{length-set, length-map}
 use Rattle.grid_types.specs.declared.layout_change.LayoutChange.{LayoutChange}
 use Rattle.grid_types.specs.declared.owner.Owner.{Owner}
-use Rattle.grid_types.specs.declared.shape.Shape.{Shape}
 use Rattle.grid_types.specs.declared.update.Update.{Update}
 use Rattle.grid_types.proofs.Each.{any-default}
 use Rattle.grid_model.specs.Cells.{parts, dims}
-use Rattle.grid_model.specs.Tables.{Table, effect}
+use Rattle.grid_model.specs.Tables.{effect}
 use Rattle.grid_model.specs.Layouts.{BucketBox, Layout, holder}
 use Rattle.grid_model.specs.LayoutLaws.{StandsOver}
 use Rattle.grid_model.specs.LoneLaws.{IsState}
@@ -28,7 +27,7 @@ use Rattle.history_pages.specs.KnownPages.{settle_page}
 use Rattle.page_states.specs.declared.page_state.PageState.{PageState}
 use Rattle.page_states.specs.declared.page_state.PageState.TheVariants.{Claimed, Live}
 use Rattle.page_states.specs.Effects.{with_end, with_newest, vanished}
-use Rattle.page_states.specs.Changes.{Publication, all_published, all_vanished, ArePublishable}
+use Rattle.page_states.specs.Changes.{Publication, all_published, all_vanished}
 use Rattle.layout_pages.specs.Holding.{HoldLayout, NamesCurrent}
 use Rattle.layout_pages.specs.Steps.{published_states, publications, owners_renewed, owners_vanishing}
 use Rattle.layout_pages.proofs.Changing.{change-holds}
@@ -38,7 +37,7 @@ use Rattle.kept_pages.proofs.Changes.{change-counts}
 use Rattle.file_images.specs.Kept.{Counting, PlacedBatch, Kept}
 use Rattle.file_images.specs.Leads.{Standing, behind, Lineage, and_then, LeadsAlong}
 use Rattle.file_images.specs.LeadingLaws.{NamesNone}
-use Rattle.file_images.specs.Steps.{ruled, first_with, second_with, with_slot, with_doubt, with_settled, first_by, second_by}
+use Rattle.file_images.specs.Steps.{ruled, first_with, second_with, with_slot, with_doubt, with_settled}
 use Rattle.file_images.proofs.Halves.{old_or_new}
 use Rattle.file_images.proofs.Histories.{leads_placed}
 use Rattle.file_images.proofs.PagesLeading.{leads_fresh, leads_settled}

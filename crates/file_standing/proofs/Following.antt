@@ -1,6 +1,6 @@
 -- A root that follows along a lineage counts as the lone caller's state behind it.
-use Rattle.std.proofs.Common.{◌≡◌, ◌≢◌, ◌<◌, ◌≤◌, ◌+◌, inr, ℕ, zero, suc, List, [], ◌∷◌, length, slice_index, Option, Some, None, refl, sym, ap, subst, ◌∙◌, arith}
-use Rattle.std.specs.Prelude.{slice_get, slice_set, Contains}
+use Rattle.std.proofs.Common.{◌≡◌, ◌≢◌, ◌≤◌, ◌+◌, inr, ℕ, suc, List, [], ◌∷◌, length, slice_index, Option, refl, sym, ap, subst, ◌∙◌, arith}
+use Rattle.std.specs.Prelude.{slice_set}
 use Rattle.std.specs.List.{count_by}
 use Rattle.std.proofs.lemmas.List.{length-map}
 use Rattle.grid_types.specs.declared.layout_change.LayoutChange.{LayoutChange}
@@ -9,7 +9,7 @@ use Rattle.grid_model.specs.Cells.{parts}
 use Rattle.grid_model.specs.Tables.{Table}
 use Rattle.grid_model.specs.Layouts.{BucketBox, Layout, holder}
 use Rattle.grid_model.specs.LayoutLaws.{StandsOver}
-use Rattle.grid_model.specs.Lone.{State, how_many, renewed, free}
+use Rattle.grid_model.specs.Lone.{State, how_many, renewed}
 use Rattle.grid_model.specs.Notes.{updated_key, IsLawfulNote}
 use Rattle.grid_model.specs.Roots.{WholeRoot}
 use Rattle.grid_model.specs.Images.{MayRedo}
@@ -30,9 +30,8 @@ use Rattle.file_images.specs.Leads.{Standing, Lineage, LeadsAlong, MayFollow}
 use Rattle.file_images.proofs.Leading.{leads_doubted}
 use Rattle.file_images.proofs.PagesLeading.{leads_fresh}
 use Rattle.file_books.specs.Books.{Books}
-use Rattle.file_standing.specs.Files.{state_along, Follows, BooksHold, IsFile}
+use Rattle.file_standing.specs.Files.{state_along, Follows, BooksHold}
 use Rattle.file_standing.specs.Steps.{IsWritten, batch_of_one, with_fresh}
-use Rattle.file_standing.specs.FileLaws.{CommitStands}
 use Rattle.file_standing.proofs.Along.{IsAt, at-standing, may-follow}
 
 -- so many distinct pages are claimed

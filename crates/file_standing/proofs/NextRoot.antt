@@ -1,5 +1,5 @@
 -- The next root of the books holds the standing itself: it leads there with no batch taken.
-use Rattle.std.proofs.Common.{◌≡◌, ◌<◌, ◌≤◌, inl, inr, ◌+◌, ℕ, List, length, Option, Some, refl, sym, ap, subst, ◌∙◌, arith}
+use Rattle.std.proofs.Common.{◌≡◌, ◌<◌, inl, inr, ℕ, Some, refl, sym, ap, subst, ◌∙◌, arith}
 use Rattle.std.specs.Prelude.{slice_get}
 use Rattle.grid_types.specs.declared.shape.Shape.{Shape}
 use Rattle.grid_model.specs.Cells.{parts}

@@ -1,6 +1,6 @@
 -- Sweeps, claims and what is given back leave a file where it stands.
-use Rattle.std.proofs.Common.{◌≡◌, ◌<◌, ◌≤◌, inl, inr, ℕ, zero, suc, List, [], ◌∷◌, take, fold, length, replicate, Option, Some, None, refl, sym, ap, subst, ◌∙◌, arith}
-use Rattle.std.specs.Prelude.{Contains, slice_set}
+use Rattle.std.proofs.Common.{◌≡◌, inl, inr, ℕ, zero, suc, List, [], ◌∷◌, take, fold, length, replicate, Option, Some, None, refl, sym, ap, subst, ◌∙◌}
+use Rattle.std.specs.Prelude.{Contains}
 use Rattle.std.specs.List.{count_by}
 use Rattle.std.proofs.lemmas.List.{length-map}
 use Rattle.grid_model.specs.Lone.{State, free}
@@ -21,11 +21,10 @@ use Rattle.kept_pages.proofs.FreePages.{free-count}
 use Rattle.kept_pages.proofs.Steps.{steps-count}
 use Rattle.file_images.specs.Kept.{Kept, MayBeNewest}
 use Rattle.file_images.specs.Leads.{Standing, Lineage}
-use Rattle.file_images.specs.LeadingLaws.{NamesNone}
 use Rattle.file_images.proofs.PagesLeading.{leads_let_go, covers_let_go}
 use Rattle.file_books.specs.Books.{Books}
 use Rattle.file_books.specs.Effects.{root_places, with_place, swept_books}
-use Rattle.file_standing.specs.Files.{state_along, AgreeWith, BooksHold, Follows, FollowsSome, IsFile, IsAlone}
+use Rattle.file_standing.specs.Files.{state_along, AgreeWith, BooksHold, Follows, IsFile, IsAlone}
 use Rattle.file_standing.specs.Steps.{swept_kept}
 use Rattle.file_standing.specs.FileLaws.{PageStepsStay}
 use Rattle.file_standing.proofs.Following.{counted-along}

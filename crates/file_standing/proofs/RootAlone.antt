@@ -1,9 +1,7 @@
 -- A root step leaves a lone caller's state as the lone caller's root step does.
-use Rattle.std.proofs.Common.{◌≡◌, ◌≢◌, ◌<◌, ◌≤◌, ◌+◌, ◌==◌, inl, inr, ℕ, zero, suc, Bool, true, false, cond, List, Some, None, refl, sym, ap, subst, ◌∙◌, arith, eq-eqb}
+use Rattle.std.proofs.Common.{◌≡◌, ◌==◌, ℕ, true, false, refl, sym, ap, subst, ◌∙◌, arith, eq-eqb}
 use Rattle.std.proofs.lemmas.Bool.{ne_eqb}
 use Rattle.grid_types.proofs.Places.{within-limits}
-use Rattle.grid_model.specs.Tables.{Table}
-use Rattle.grid_model.specs.Layouts.{Layout}
 use Rattle.grid_model.specs.Lone.{State, root, owners}
 use Rattle.grid_model.specs.Roots.{WholeRoot}
 use Rattle.file_images.specs.Kept.{Kept}

@@ -1,17 +1,17 @@
 -- A root step leaves a file where it stands at each of its points.
-use Rattle.std.proofs.Common.{◌≡◌, ◌<◌, ◌≤◌, ◌+◌, ◌==◌, inl, inr, ℕ, Bool, true, false, cond, List, map, length, Option, Some, None, refl, sym, ap, subst, ◌∙◌, arith}
+use Rattle.std.proofs.Common.{◌≡◌, ◌+◌, ◌==◌, inl, inr, ℕ, Bool, true, false, cond, map, Option, Some, None, sym, ap, subst, ◌∙◌}
 use Rattle.std.specs.Option.{unwrap_or}
 use Rattle.grid_model.specs.Roots.{WholeRoot}
 use Rattle.grid_model.proofs.Boxes.{one-value, some-not-none}
-use Rattle.file_images.specs.Kept.{ShutHeader, LooseHeader, Kept, IsTried, MayBeNewest}
+use Rattle.file_images.specs.Kept.{ShutHeader, LooseHeader, Kept}
 use Rattle.file_images.specs.Leads.{Standing, Lineage, lineage_at}
 use Rattle.file_images.specs.Steps.{first_by, second_by, loosened, none_used, other_half, with_turned, with_closed, with_tried, with_root, with_loose, with_shut}
 use Rattle.file_images.proofs.Histories.{leads_over}
 use Rattle.file_images.proofs.Leading.{leads_loosened, leads_cleared}
 use Rattle.file_books.specs.Books.{Books}
-use Rattle.file_books.specs.Effects.{used_of, idle_half, with_used, closed_books, turned_books, rooted_books, cleaned_books}
-use Rattle.file_standing.specs.Files.{Follows, FollowsSome, IsFile}
-use Rattle.file_standing.specs.Steps.{turned_kept, cleaned_kept, IsNextRoot}
+use Rattle.file_books.specs.Effects.{used_of, idle_half, with_used, closed_books, rooted_books, cleaned_books}
+use Rattle.file_standing.specs.Files.{Follows, IsFile}
+use Rattle.file_standing.specs.Steps.{cleaned_kept, IsNextRoot}
 use Rattle.file_standing.proofs.Books.{books_used, used-form, idle-half-two, idle-half-other, loose-first, loose-second, clear-first, clear-second}
 use Rattle.file_standing.proofs.Moving.{moved-hold, moved-follows, none-tried, only-root, loose-none, clear-none, all-behind}
 use Rattle.file_standing.proofs.NextRoot.{new-follows}

@@ -1,7 +1,5 @@
 -- How many buckets and records there are after a change, and its scales.
-use Rattle.std.proofs.Common.{◌≡◌, ◌≢◌, ◌<◌, ◌≤◌, ◌+◌, ◌-◌, ◌*◌, ◌==◌, inl, inr, ℕ, min, max, Bool, true, false, cond, not, T, List, [], ◌∷◌, length, Option, Some, None, IsSome, is_some, refl, sym, ap, subst, ◌∙◌, arith, true≢false, nat_le, nat_cmp, leb-true, leb-false, eqb-true, All}
-use Rattle.std.specs.List.{sum_by}
-use Rattle.std.specs.Ordering.{eq_by_cmp}
+use Rattle.std.proofs.Common.{◌≡◌, ◌≢◌, ◌≤◌, ◌+◌, ◌*◌, ◌==◌, ℕ, min, max, Bool, true, false, cond, not, T, List, length, Some, None, IsSome, is_some, refl, sym, ap, subst, ◌∙◌, arith, nat_le, nat_cmp, leb-true, leb-false, eqb-true, All}
 use Rattle.std.specs.Cmp.{nat_cmp_total}
 use Rattle.std.specs.Cmp.Lexicographic.{nat_list_cmp_total}
 use Rattle.std.specs.FinMap.{nat_cmp-IsAntisymmetric}
@@ -16,7 +14,7 @@ use Rattle.grid_types.specs.Keys.{key_cmp}
 use Rattle.grid_model.specs.Tables.{Table, IsTable, get, with_data, without, effect}
 use Rattle.grid_model.specs.Layouts.{BucketBox, Layout, box, records_inside}
 use Rattle.grid_model.specs.LayoutLaws.{StandsOver}
-use Rattle.grid_model.specs.Notes.{updated_key, IsLawfulNote, after_note_at, joined, split, together}
+use Rattle.grid_model.specs.Notes.{IsLawfulNote, after_note_at, joined, together}
 use Rattle.grid_model.proofs.Ascending.{each-found}
 use Rattle.grid_model.proofs.CutBoxes.{length-split}
 use Rattle.grid_model.proofs.Numbered.{put-there, without-one}
@@ -25,7 +23,7 @@ use Rattle.history_pages.specs.PageLaws.{IsChange}
 use Rattle.history_pages.proofs.Changes.{box-there}
 use Rattle.history_pages.proofs.Cutting.{CutsBox, lawful-cut, scales-of-split}
 use Rattle.history_pages.proofs.Joining.{JoinsBox, lawful-join, after-join}
-use Rattle.file_books.specs.Effects.{RecordChange, More, Same, Fewer, records_after, buckets_after, scales_after_change}
+use Rattle.file_books.specs.Effects.{More, Same, records_after, buckets_after, scales_after_change}
 use Rattle.file_standing.specs.Steps.{record_change}
 
 -- a layout has no more records than its buckets hold

@@ -1,12 +1,11 @@
 -- What the books of a file and what the file keeps say of each other: where the file stands.
 use Rattle.std.specs.Prelude.{◌≡◌, ◌<◌, ◌≤◌, ℕ, fold, length, replicate, slice_get, Some, None}
-use Rattle.grid_types.specs.declared.layout_change.LoggedUpdate.{LoggedUpdate}
 use Rattle.grid_model.specs.LayoutLaws.{StandsOver}
 use Rattle.grid_model.specs.Lone.{State, opened}
 use Rattle.grid_model.specs.Images.{redo}
 use Rattle.grid_model.specs.Roots.{WholeRoot}
 use Rattle.file_images.specs.Kept.{PlacedBatch, Shut, MayBeNewest, IsTried, Kept, on_half, used}
-use Rattle.file_images.specs.Leads.{Standing, Lineage, updates_in, LeadsAlong, Leads}
+use Rattle.file_images.specs.Leads.{Standing, Lineage, updates_in, LeadsAlong}
 use Rattle.layout_pages.specs.Holding.{HoldLayout, NamesCurrent}
 use Rattle.kept_pages.specs.Counts.{CountsRoot}
 use Rattle.file_books.specs.Books.{Books}

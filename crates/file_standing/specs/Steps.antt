@@ -1,5 +1,5 @@
 -- What each step makes of what is kept on a file, beside what it makes of the books.
-use Rattle.std.specs.Prelude.{◌≡◌, ◌+◌, ◌==◌, ℕ, zero, List, [], ◌∷◌, map, fold, length, replicate, is_some, if◌then◌else◌, Option, None}
+use Rattle.std.specs.Prelude.{◌≡◌, ◌+◌, ◌==◌, ℕ, List, [], ◌∷◌, fold, length, replicate, is_some, if◌then◌else◌, Option, None}
 use Rattle.grid_types.specs.declared.layout_change.LayoutChange.{LayoutChange}
 use Rattle.grid_types.specs.declared.owner.Owner.TheVariants.{Bucket, Part}
 use Rattle.grid_types.specs.declared.update.Update.{Update}
