@@ -68,7 +68,7 @@ fn cuts_and_merges_change_the_directory(rt: HostRuntime) -> Result<(), Fail> {
         hi: [9, u64::MAX],
     };
     let (attribute, value) = (1, 3);
-    let fresh = Cut {
+    let mut cut = Cut {
         attribute,
         value,
         fresh: true,
@@ -76,7 +76,7 @@ fn cuts_and_merges_change_the_directory(rt: HostRuntime) -> Result<(), Fail> {
     let (lo, hi) = ([0, 1], [0, 2]);
     let cells = CellBox { lo, hi };
     assert_eq!(rt;
-        change_of_cut(&before, &after, &region, fresh, 4),
+        change_of_cut(&before, &after, &region, cut, 4),
         DirectoryChange::Grow {
             attribute,
             interval: 0,
@@ -84,13 +84,9 @@ fn cuts_and_merges_change_the_directory(rt: HostRuntime) -> Result<(), Fail> {
             bucket: 4
         }
     );
-    let old = Cut {
-        attribute,
-        value,
-        fresh: false,
-    };
+    cut.fresh = false;
     assert_eq!(rt;
-        change_of_cut(&after, &after, &region, old, 4),
+        change_of_cut(&after, &after, &region, cut, 4),
         DirectoryChange::Patch { cells, bucket: 4 }
     );
     assert_eq!(rt;

@@ -1,13 +1,14 @@
 -- What several calls on the pages of a change leave, one after the other.
-use Rattle.std.proofs.Common.{◌≤◌, ℕ, List, Option, None, sym, ◌∙◌, arith, refl}
-use Rattle.std.specs.Prelude.{Result, IfErr}
+use Rattle.std.proofs.Common.{◌≡◌, ◌≤◌, ℕ, List, Option, None, sym, ◌∙◌, arith, refl}
+use Rattle.std.specs.Prelude.{Result, Err, IfErr, IsErrAnd}
 use Rattle.std.proofs.lemmas.Result.{IfErr-weaker}
 use Rattle.grid_types.specs.declared.refusal.Refusal.{Refusal}
 use Rattle.grid_types.specs.declared.refusal.Refusal.TheVariants as why
 use Rattle.disk_trait.proofs.Calls.{rose_within}
 use Rattle.shadow_directory.specs.declared.pages.ChangePages.{Ghosts}
 use Rattle.shadow_directory.specs.Pages.{LeavesPages}
-use Rattle.shadow_directory.specs.Calls.{Keeps, OnlyReads, Tells, IsCause, Holds}
+use Rattle.shadow_directory.specs.Calls.{Keeps, OnlyReads, ReadsOld, Tells, IsCause, IsFault, Holds}
+use Rattle.shadow_directory.proofs.Faults.{err-goes}
 
 module _ {P : Type 0} {g : Ghosts P} where
   -- no call
@@ -67,3 +68,11 @@ module _ {P : Type 0} {g : Ghosts P} where
 
   pub causes-behind : {T : Type 0} (a b c : P) (ns bytes : List ℕ) (r : Result T Refusal) → Keeps g a b → IfErr r (IsCause g ns b c bytes) → IfErr r (IsCause g ns a c bytes)
   causes-behind a b c ns bytes r k h = IfErr-weaker r (IsCause g ns b c bytes) (IsCause g ns a c bytes) (λ e. cause-behind a b c ns bytes e k) h
+
+  -- a failed reading that goes on to the caller
+  pub reads-failed : {T U : Type 0} (old new : P) (ns bytes : List ℕ) (r : Result T Refusal) (e : Refusal) → IsErrAnd r (λ y. y ≡ e) → ReadsOld {T = U} g ns (Err e) old new bytes → ReadsOld g ns r old new bytes
+  reads-failed old new ns bytes r e goes h = record { honest = λ D tells. err-goes r e IsFault goes (h.honest D tells); cause = err-goes r e (IsCause g ns old new bytes) goes h.cause; same = h.same }
+
+  -- a reading behind others
+  pub reads-behind : {T : Type 0} (law : (a b c : P) → g.stays a b → g.stays b c → g.stays a c) (a b c : P) (ns bytes : List ℕ) (r : Result T Refusal) → OnlyReads g a b → ReadsOld g ns r b c bytes → ReadsOld g ns r a c bytes
+  reads-behind law a b c ns bytes r k h = record { honest = λ D tells. h.honest D (tells-on k.keeps tells); cause = causes-behind a b c ns bytes r k.keeps h.cause; same = reads-on law k h.same }

@@ -1,6 +1,6 @@
 -- A part that is written by a reading and then a write.
 use Rattle.std.proofs.Common.{◌≡◌, ◌+◌, ◌++◌, ◌∷◌, [], ℕ, List, ap, ◌∙◌, subst}
-use Rattle.std.specs.Prelude.{Result, OnOk, OnErr, IfErr, IsErrAnd}
+use Rattle.std.specs.Prelude.{Result, Err, OnOk, OnErr, IfErr, IsErrAnd}
 use Rattle.std.proofs.lemmas.Result.{on_ok_weaker}
 use Rattle.grid_types.specs.declared.owner.Owner.TheVariants.{Part}
 use Rattle.grid_types.specs.declared.refusal.Refusal.{Refusal}
@@ -8,7 +8,7 @@ use Rattle.grid_model.specs.Spellings.{directory_spelling}
 use Rattle.directory_changes.specs.declared.change.DirectoryChange.{DirectoryChange}
 use Rattle.shadow_directory.specs.declared.pages.ChangePages.{Ghosts}
 use Rattle.shadow_directory.specs.Pages.{BeganFor}
-use Rattle.shadow_directory.specs.Calls.{Keeps, OnlyReads, Tells, IsCause, IsFault, WrotePart}
+use Rattle.shadow_directory.specs.Calls.{Keeps, OnlyReads, ReadsOld, Tells, IsCause, IsFault, WrotePart}
 use Rattle.shadow_directory.specs.Directories.{IsPartAfter}
 use Rattle.shadow_directory.specs.WrittenParts.{WritesPart}
 use Rattle.shadow_directory.proofs.Began.{began-none}
@@ -17,14 +17,14 @@ use Rattle.shadow_directory.proofs.Keeping.{keeps-on, causes-behind}
 
 module _ {P T : Type 0} {g : Ghosts P} {K : ℕ} (ns : List ℕ) (change : DirectoryChange K) (part : ℕ) (old new : P) (bytes : List ℕ) (r : Result T Refusal) where
   -- the reading failed
-  pub part-failed : (e : Refusal) → IsErrAnd r (λ y. y ≡ e) → ((D : List ℕ) → Tells g old ns D → IsFault e) → IsCause g ns old new bytes e → OnlyReads g old new → WritesPart g ns change part r old new bytes
-  part-failed e goes honest cause same = record {
+  pub part-failed : {U : Type 0} (e : Refusal) → IsErrAnd r (λ y. y ≡ e) → ReadsOld {T = U} g ns (Err e) old new bytes → WritesPart g ns change part r old new bytes
+  part-failed e goes h = record {
     written = λ D after tells is. err-not-ok r e (g.written new ≡ g.written old ++ (Part part, directory_spelling part after) ∷ []) goes;
-    honest = λ D tells. err-goes r e IsFault goes (honest D tells);
-    cause = err-goes r e (IsCause g ns old new bytes) goes cause;
-    same = same.keeps;
+    honest = λ D tells. err-goes r e IsFault goes (h.honest D tells);
+    cause = err-goes r e (IsCause g ns old new bytes) goes h.cause;
+    same = h.same.keeps;
     wrote = err-not-ok r e (WrotePart part (g.written old) (g.written new)) goes;
-    began = err-there r (BeganFor (Part part ∷ []) (g.written old) (g.written new)) (began-none (Part part ∷ []) (g.written old) (g.written new) same.written);
+    began = err-there r (BeganFor (Part part ∷ []) (g.written old) (g.written new)) (began-none (Part part ∷ []) (g.written old) (g.written new) h.same.written);
     left = err-not-ok r e (g.room new + 1 ≡ g.room old) goes;
   }
 

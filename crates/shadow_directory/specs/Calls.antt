@@ -1,5 +1,5 @@
 -- What a call leaves of the pages of a change, each as one record over the trait's ghost members, and why it fails.
-use Rattle.std.specs.Prelude.{◌≡◌, ◌<◌, ◌≤◌, ◌*◌, ◌++◌, ◌∷◌, [], ℕ, List, Option, Some, ⊤}
+use Rattle.std.specs.Prelude.{◌≡◌, ◌<◌, ◌≤◌, ◌*◌, ◌++◌, ◌∷◌, [], ℕ, List, Option, Some, Result, IfErr, ⊤}
 use Rattle.grid_types.specs.declared.owner.Owner.{Owner}
 use Rattle.grid_types.specs.declared.owner.Owner.TheVariants.{Part}
 use Rattle.grid_types.specs.declared.refusal.Refusal.{Refusal}
@@ -72,3 +72,9 @@ pub record TellsPages {P : Type 0} (g : Ghosts P) {K : ℕ} (pages : P) (L : Lay
   pub given : Owner → Option (List ℕ)
   pub told : g.pages pages ≡ Some given
   pub each : (o : Owner) → given o ≡ owner_page L t o
+
+-- old parts are read: nothing else is done, a failure has its cause, and none but a failed read comes where the pages are told
+pub record ReadsOld {P T : Type 0} (g : Ghosts P) (ns : List ℕ) (result : Result T Refusal) (old new : P) (bytes : List ℕ) : Type 0 where
+  pub honest : (D : List ℕ) → Tells g old ns D → IfErr result IsFault
+  pub cause : IfErr result (IsCause g ns old new bytes)
+  pub same : OnlyReads g old new

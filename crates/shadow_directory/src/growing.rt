@@ -1,11 +1,11 @@
 //! Parts of a refined directory.
-ghost use Rattle.std.specs.Prelude.{◌≡◌, ◌<◌, ◌≤◌, ◌*◌, ◌∷◌, [], ℕ, List, Some, slice_index, OnOk, IfErr};
+ghost use Rattle.std.specs.Prelude.{◌≡◌, ◌<◌, ◌≤◌, ◌*◌, ◌∷◌, [], ℕ, List, Some, slice_index, OnOk};
 ghost use Rattle.grid_types.specs.Shapes.{word_pages};
 ghost use Rattle.grid_model.specs.Lists.{product};
 ghost use Rattle.directory_changes.specs.Changes.{grown, IsGrowth};
 ghost use Rattle.directory_changes.specs.declared.change.DirectoryChange.TheVariants.{Grow};
 ghost use Rattle.shadow_directory.specs.Pages.{Ticks};
-ghost use Rattle.shadow_directory.specs.Calls.{OnlyReads, Tells, Holds, IsCause, IsFault};
+ghost use Rattle.shadow_directory.specs.Calls.{ReadsOld, Tells, Holds};
 ghost use Rattle.shadow_directory.specs.Images.{parts_needed};
 ghost use Rattle.shadow_directory.specs.Reads.{sources, readings, last_held};
 ghost use Rattle.shadow_directory.specs.WrittenParts.{WritesPart};
@@ -34,12 +34,8 @@ fn hold<const K: usize, P: ChangePages, L: Ledger>(
     requires held { Holds P.ChangePages dims.now.intervals pages.old held.old page.old }
     ensures there { OnOk result (held.new ≡ Some part) }
     ensures held { Holds P.ChangePages dims.now.intervals pages.new held.new page.new }
-    ensures honest { (D : List ℕ)
-        → Tells P.ChangePages pages.old dims.now.intervals D
-        → IfErr result IsFault }
-    ensures cause { IfErr result
-        (IsCause P.ChangePages dims.now.intervals pages.old pages.new page.new) }
-    ensures same { OnlyReads P.ChangePages pages.old pages.new }
+    ensures reads { ReadsOld P.ChangePages dims.now.intervals
+        result pages.old pages.new page.new }
     ensures ticks { Ticks (readings held.old (part ∷ [])) steps.old steps.new result }
 {
     if *held == Some(part) {
@@ -72,12 +68,8 @@ fn gather<const K: usize, P: ChangePages, L: Ledger>(
         → k < count
         → slice_index buckets.new k ≡ slice_index D (slice_index images.now k)) }
     ensures held { Holds P.ChangePages dims.now.intervals pages.new held.new page.new }
-    ensures honest { (D : List ℕ)
-        → Tells P.ChangePages pages.old dims.now.intervals D
-        → IfErr result IsFault }
-    ensures cause { IfErr result
-        (IsCause P.ChangePages dims.now.intervals pages.old pages.new page.new) }
-    ensures same { OnlyReads P.ChangePages pages.old pages.new }
+    ensures reads { ReadsOld P.ChangePages dims.now.intervals
+        result pages.old pages.new page.new }
     ensures last { OnOk result (held.new ≡ last_held held.old
         (parts_needed images.now count (word_pages (product dims.now.intervals)))) }
     ensures ticks { Ticks (readings held.old
@@ -118,8 +110,7 @@ pub fn grow_part<const K: usize, P: ChangePages, L: Ledger>(
     ensures writes { WritesPart P.ChangePages dims.now.intervals
         (Grow attribute interval cells.now bucket) part
         result pages.old pages.new room.new.old_page }
-    ensures held { OnOk result
-        (Holds P.ChangePages dims.now.intervals pages.new held.new room.new.old_page) }
+    ensures held { Holds P.ChangePages dims.now.intervals pages.new held.new room.new.old_page }
     ensures last { OnOk result (held.new
         ≡ last_held held.old (sources dims.now.intervals attribute interval part)) }
     ensures ticks { Ticks (readings held.old (sources dims.now.intervals attribute interval part))

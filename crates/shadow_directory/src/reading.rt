@@ -1,5 +1,5 @@
 //! Old directory parts, read and judged.
-ghost use Rattle.std.specs.Prelude.{◌≡◌, ◌<◌, ◌*◌, ◌+◌, ℕ, List, Option, Some, None, OnOk, IfErr};
+ghost use Rattle.std.specs.Prelude.{◌≡◌, ◌<◌, ◌*◌, ◌+◌, ℕ, List, Option, Some, OnOk};
 ghost use Rattle.grid_types.specs.declared.owner.Owner.{Owner};
 ghost use Rattle.grid_types.specs.declared.owner.Owner.TheVariants.{Part};
 ghost use Rattle.grid_types.specs.Shapes.{word_pages};
@@ -7,7 +7,7 @@ ghost use Rattle.grid_model.specs.Lists.{product};
 ghost use Rattle.directory_pages.specs.Spelling.{IsDirectoryPage};
 ghost use Rattle.directory_pages.specs.CellBoxes.{cells_on};
 ghost use Rattle.shadow_directory.specs.Pages.{Ticks};
-ghost use Rattle.shadow_directory.specs.Calls.{OnlyReads, Tells, Holds, IsCause, IsFault};
+ghost use Rattle.shadow_directory.specs.Calls.{ReadsOld};
 
 use crate::ChangePages;
 use directory_pages::is_directory_page;
@@ -39,12 +39,8 @@ pub fn read_old<const K: usize, P: ChangePages, L: Ledger>(
     ensures bytes { (f : Owner → Option (List ℕ))
         → P.pages pages.old ≡ Some f
         → OnOk result (f (Part part) ≡ Some page.new) }
-    ensures honest { (D : List ℕ)
-        → Tells P.ChangePages pages.old dims.now.intervals D
-        → IfErr result IsFault }
-    ensures cause { IfErr result
-        (IsCause P.ChangePages dims.now.intervals pages.old pages.new page.new) }
-    ensures same { OnlyReads P.ChangePages pages.old pages.new }
+    ensures reads { ReadsOld P.ChangePages dims.now.intervals
+        result pages.old pages.new page.new }
     ensures ticks { Ticks 1 steps.old steps.new result }
 {
     match pages.read_part(part, page, steps) {

@@ -89,8 +89,7 @@ fn write_part<const K: usize, P: ChangePages, L: Ledger>(
     requires held { Holds P.ChangePages dims.now.intervals pages.old held.old room.old.old_page }
     ensures writes { WritesPart P.ChangePages dims.now.intervals change.now part
         result pages.old pages.new room.new.old_page }
-    ensures held { OnOk result
-        (Holds P.ChangePages dims.now.intervals pages.new held.new room.new.old_page) }
+    ensures held { Holds P.ChangePages dims.now.intervals pages.new held.new room.new.old_page }
     ensures last { OnOk result
         (held.new ≡ held_after dims.now.intervals change.now held.old part) }
     ensures ticks { Ticks (part_reads dims.now.intervals change.now held.old part)

@@ -241,7 +241,7 @@ fn they_grow<L: Ledger>(alloc: Global, blank: Blank) -> Result<bool, Fail>
     Ok(line && plane)
 }
 
-/// Whether a directory of three attributes grows.
+/// Whether directories of three attributes grow, one of them with slices that are longer than a page.
 #[tactic(auto, using(grid_cells::proofs::Literals::literal))]
 fn they_grow_in_space<L: Ledger>(alloc: Global, blank: Blank) -> Result<bool, Fail>
     requires name { blank.name ≡ L.name }
@@ -262,7 +262,27 @@ fn they_grow_in_space<L: Ledger>(alloc: Global, blank: Blank) -> Result<bool, Fa
         cells,
         bucket,
     };
-    comes(alloc, (&old, &new, &change, 9), (Ok(()), 3, 5), &mut steps)
+    let space = comes(alloc, (&old, &new, &change, 9), (Ok(()), 3, 5), &mut steps)?;
+    let (attribute, interval) = (1, 0);
+    let intervals = [3, 1, 1750];
+    let old = Dims { intervals };
+    let intervals = [3, 2, 1750];
+    let new = Dims { intervals };
+    let (lo, hi) = ([0, 1, 10], [2, 1, 50]);
+    let cells = CellBox { lo, hi };
+    let change = DirectoryChange::Grow {
+        attribute,
+        interval,
+        cells,
+        bucket,
+    };
+    let long = comes(
+        alloc,
+        (&old, &new, &change, 30),
+        (Ok(()), 18, 12),
+        &mut steps,
+    )?;
+    Ok(space && long)
 }
 
 /// Whether boxes that lie on several parts are patched, and each call that fails is told.

@@ -1,25 +1,20 @@
 use Rattle.std.proofs.Common.{◌∙◌, ◌<◌, ◌+◌, ap, sym, arith}
 use Rattle.grid_types.specs.Shapes.{word_pages}
 use Rattle.grid_model.specs.Lists.{product}
-use Rattle.shadow_directory.specs.Calls.{IsFault, IsCause}
 use Rattle.shadow_directory.specs.Images.{needs, parts_needed}
 use Rattle.shadow_directory.specs.Reads.{readings, last_held}
-use Rattle.shadow_directory.proofs.Faults.{err-goes}
-use Rattle.shadow_directory.proofs.Keeping.{tells-on, reads-on, reads-self, cause-behind}
+use Rattle.shadow_directory.proofs.Keeping.{reads-on, reads-self, reads-failed, reads-behind}
 use Rattle.shadow_directory.proofs.Needed.{needed-all, next-needed, none-needed}
 use Rattle.shadow_directory.proofs.Onward.{onward}
 use Rattle.shadow_directory.proofs.Read.{read-next, ticks-done, ticks-failed}
 use Rattle.shadow_directory.proofs.Patched.{gathered-more}
 use Rattle.shadow_directory.proofs.growing.gather.Goals as goal
 
-pub returns-in_err-hold-clause-honest : goal.returns-in_err-hold-clause-honest
-returns-in_err-hold-clause-honest g c = λ D tells.
-    err-goes c.from_residual.result _ IsFault c.from_residual.ensures.1 (c.in_err-hold.ensures.honest D (tells-on c.loop-part.invariant.reads.keeps tells))
-
-pub returns-in_err-hold-clause-cause : goal.returns-in_err-hold-clause-cause
-returns-in_err-hold-clause-cause g c =
-    err-goes c.from_residual.result _ (IsCause g.P.ChangePages c.args.dims.now.intervals c.args.pages.now c.hold.new.pages c.hold.new.page) c.from_residual.ensures.1
-    (cause-behind c.args.pages.now c.loop-part.pages c.hold.new.pages c.args.dims.now.intervals c.hold.new.page _ c.loop-part.invariant.reads.keeps c.in_err-hold.ensures.cause)
+pub returns-in_err-hold-clause-reads : goal.returns-in_err-hold-clause-reads
+returns-in_err-hold-clause-reads g c =
+    let ns = c.args.dims.now.intervals in
+    reads-behind g.met.P.ChangePages.stays_on c.args.pages.now c.loop-part.pages c.hold.new.pages ns c.hold.new.page c.from_residual.result c.loop-part.invariant.reads
+    (reads-failed c.loop-part.pages c.hold.new.pages ns c.hold.new.page c.from_residual.result _ c.from_residual.ensures.1 c.in_err-hold.ensures.reads)
 
 pub returns-in_err-hold-clause-ticks : goal.returns-in_err-hold-clause-ticks
 returns-in_err-hold-clause-ticks g c =
@@ -53,7 +48,7 @@ loop-part-preserved g c =
     let was = c.loop-part.invariant in
     let held = c.in_ok-hold.ensures in
     let law = g.met.P.ChangePages.stays_on in
-    let reads = reads-on law was.reads held.same in
+    let reads = reads-on law was.reads held.reads.same in
     let N = word_pages (product c.args.dims.now.intervals) in
     let needed = c.in-Some.ensures in
     let inside : c.in-Some.part < N = omega (arith, needed.needed, c.requires.images needed.place needed.inside) in

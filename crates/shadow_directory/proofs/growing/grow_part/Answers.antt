@@ -2,7 +2,6 @@ use Rattle.std.proofs.Common.{◌≡◌, ◌≤◌, ◌∙◌, ap, arith, subst,
 use Rattle.std.proofs.lemmas.List.{get_or-take, length-take}
 use Rattle.directory_pages.specs.CellBoxes.{cells_on}
 use Rattle.directory_changes.specs.declared.change.DirectoryChange.TheVariants.{Grow}
-use Rattle.shadow_directory.specs.Calls.{Holds}
 use Rattle.shadow_directory.specs.Images.{AreImages}
 use Rattle.shadow_directory.specs.Reads.{sources, readings, last_held}
 use Rattle.shadow_directory.proofs.Faults.{ok-there}
@@ -15,8 +14,7 @@ use Rattle.shadow_directory.proofs.growing.grow_part.Goals as goal
 
 pub returns-in_err-gather-clause-writes : goal.returns-in_err-gather-clause-writes
 returns-in_err-gather-clause-writes g c =
-    let failed = c.in_err-gather.ensures in
-    part-failed {K = g.row.K} c.args.dims.now.intervals (Grow c.args.attribute c.args.interval c.args.cells.now c.args.bucket) c.args.part c.args.pages.now c.gather.new.pages c.gather.new.page c.from_residual.result _ c.from_residual.ensures.1 failed.honest failed.cause failed.same
+    part-failed {K = g.row.K} c.args.dims.now.intervals (Grow c.args.attribute c.args.interval c.args.cells.now c.args.bucket) c.args.part c.args.pages.now c.gather.new.pages c.gather.new.page c.from_residual.result _ c.from_residual.ensures.1 c.in_err-gather.ensures.reads
 
 pub returns-in_err-gather-clause-ticks : goal.returns-in_err-gather-clause-ticks
 returns-in_err-gather-clause-ticks g c =
@@ -28,8 +26,7 @@ returns-in_err-gather-clause-ticks g c =
     ticks-failed (readings c.args.held.now (sources ns c.args.attribute c.args.interval c.args.part)) c.args.steps.now c.gather.new.steps c.from_residual.result _ c.from_residual.ensures.1 ticks.least (omega (arith, ticks.most, ap (readings c.args.held.now) are))
 
 pub returns-clause-held : goal.returns-clause-held
-returns-clause-held g c =
-    ok-there c.write_page.result (Holds g.P.ChangePages c.args.dims.now.intervals c.write_page.new.pages c.gather.new.held c.gather.new.page) (holds-on c.write_page.ensures.same c.in_ok-gather.ensures.held)
+returns-clause-held g c = holds-on c.write_page.ensures.same c.in_ok-gather.ensures.held
 
 pub returns-clause-last : goal.returns-clause-last
 returns-clause-last g c =
@@ -62,7 +59,7 @@ returns-clause-writes g c =
     let found = subst (λ (k : ℕ). AreImages ns new c.args.attribute c.args.interval part k images) count c.find_images-count.ensures.found in
     let read = c.in_ok-gather.ensures in
     let put = c.write_page.ensures in
-    part-ended {K = g.row.K} ns (Grow c.args.attribute c.args.interval c.args.cells.now c.args.bucket) part c.args.pages.now c.write_page.new.pages c.gather.new.page c.write_page.result g.met.P.ChangePages.stays_on c.gather.new.pages c.patch_cell_box.new.page read.same
+    part-ended {K = g.row.K} ns (Grow c.args.attribute c.args.interval c.args.cells.now c.args.bucket) part c.args.pages.now c.write_page.new.pages c.gather.new.page c.write_page.result g.met.P.ChangePages.stays_on c.gather.new.pages c.patch_cell_box.new.page read.reads.same
     (λ D after tells is.
     (c.patch_cell_box.ensures.cells before after c.encode.ensures.spelled long
     (grown-from ns new D images before after c.args.cells.now c.args.attribute c.args.interval part c.args.bucket c.requires.refined long found

@@ -1,6 +1,5 @@
-use Rattle.shadow_directory.specs.Calls.{IsFault}
-use Rattle.shadow_directory.proofs.Faults.{err-goes}
+use Rattle.shadow_directory.proofs.Keeping.{reads-failed}
 use Rattle.shadow_directory.proofs.growing.hold.Goals as goal
 
-pub returns-in_err-read_old-clause-honest : goal.returns-in_err-read_old-clause-honest
-returns-in_err-read_old-clause-honest g c = λ D tells. err-goes c.from_residual.result _ IsFault c.from_residual.ensures.1 (c.in_err-read_old.ensures.honest D tells)
+pub returns-in_err-read_old-clause-reads : goal.returns-in_err-read_old-clause-reads
+returns-in_err-read_old-clause-reads g c = reads-failed c.args.pages.now c.read_old.new.pages c.args.dims.now.intervals c.read_old.new.page c.from_residual.result _ c.from_residual.ensures.1 c.in_err-read_old.ensures.reads

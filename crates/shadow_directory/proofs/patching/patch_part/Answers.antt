@@ -10,8 +10,7 @@ use Rattle.shadow_directory.proofs.patching.patch_part.Goals as goal
 
 pub returns-in_err-read_old-clause-writes : goal.returns-in_err-read_old-clause-writes
 returns-in_err-read_old-clause-writes g c =
-    let failed = c.in_err-read_old.ensures in
-    part-failed {K = g.row.K} c.args.dims.now.intervals (Patch c.args.cells.now c.args.bucket) c.args.part c.args.pages.now c.read_old.new.pages c.read_old.new.page c.from_residual.result _ c.from_residual.ensures.1 failed.honest failed.cause failed.same
+    part-failed {K = g.row.K} c.args.dims.now.intervals (Patch c.args.cells.now c.args.bucket) c.args.part c.args.pages.now c.read_old.new.pages c.read_old.new.page c.from_residual.result _ c.from_residual.ensures.1 c.in_err-read_old.ensures.reads
 
 pub returns-in_err-read_old-clause-ticks : goal.returns-in_err-read_old-clause-ticks
 returns-in_err-read_old-clause-ticks g c = ticks-failed 1 c.args.steps.now c.read_old.new.steps c.from_residual.result _ c.from_residual.ensures.1 c.in_err-read_old.ensures.ticks.least c.in_err-read_old.ensures.ticks.most
@@ -23,7 +22,7 @@ returns-clause-writes g c =
     let read = c.in_ok-read_old.ensures in
     let put = c.write_page.ensures in
     let page = c.patch_cell_box.new.page in
-    part-ended {K = g.row.K} ns (Patch c.args.cells.now c.args.bucket) part c.args.pages.now c.write_page.new.pages page c.write_page.result g.met.P.ChangePages.stays_on c.read_old.new.pages page read.same
+    part-ended {K = g.row.K} ns (Patch c.args.cells.now c.args.bucket) part c.args.pages.now c.write_page.new.pages page c.write_page.result g.met.P.ChangePages.stays_on c.read_old.new.pages page read.reads.same
     (λ D after tells is.
     let before : SpellsPart part c.read_old.new.page (part_of D part) = told-spells ns D tells.given part c.read_old.new.page tells.spell c.requires.part (omega arith) (read.bytes tells.given tells.told) in
     (c.patch_cell_box.ensures.cells (part_of D part) after before (length-part ns D part tells.spell.count) (patched-from ns D after c.args.cells.now part c.args.bucket tells.spell.count is)).bytes)
