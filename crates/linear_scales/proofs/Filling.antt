@@ -1,10 +1,13 @@
 -- Lists of scales, scale by scale.
-use Rattle.std.proofs.Common.{◌≡◌, ◌<◌, ℕ, zero, suc, List, [], ◌∷◌, drop, length, get_or, slice_index, slice_set, Result, refl, sym, ap, ◌∙◌, arith}
+use Rattle.std.proofs.Common.{◌≡◌, ◌<◌, ◌≤◌, ◌+◌, ℕ, zero, suc, List, [], ◌∷◌, drop, take, length, get_or, slice_index, slice_set, Result, refl, sym, ap, ◌∙◌, arith}
 use Rattle.std.specs.Prelude.{OnOk}
 use Rattle.std.proofs.lemmas.Result.{on_ok_weaker}
-use Rattle.std.proofs.lemmas.List.{get_or-map, map-set, set-get_or}
+use Rattle.std.proofs.lemmas.List.{get_or-map, map-set, set-get_or, length-map, take_all}
+use Rattle.std.proofs.lemmas.List.Sums.{sum_by_more, sum-map}
+use Rattle.std.specs.List.{sum_by}
 use Rattle.grid_model.specs.Scales.{scale_of, intervals, interval, refined}
 use Rattle.grid_model.specs.Cells.{dims, cell_of}
+use Rattle.grid_model.specs.Lone.{boundaries}
 use Rattle.linear_scales.specs.Limited.{LimitedScale, scales_of, limits_of}
 
 -- the scale at an index, without its limit
@@ -55,3 +58,15 @@ dims-filled (s ∷ ss) (n ∷ ns) p h =
     let first : n ≡ intervals s.boundaries = h zero s (omega arith) in
     let rest : ns ≡ dims (scales_of ss) = dims-filled ss ns (omega (arith, p)) (λ j d r. h (suc j) d (omega (arith, r))) in
     λ i. first i ∷ rest i
+
+-- the boundaries of the first scales, and of one more
+pub boundaries-more : (ss : List LimitedScale) (a n : ℕ) (old : LimitedScale) → a < length ss → old ≡ get_or ss a old → n ≡ sum_by length (take a (scales_of ss)) → n + length old.boundaries ≡ sum_by length (take (a + 1) (scales_of ss))
+boundaries-more ss a n old p is so_far =
+    let inside : a < length (scales_of ss) = omega (arith, p, length-map ss (λ s. s.boundaries)) in
+    let here : length old.boundaries ≡ length (scale_of (scales_of ss) a) = ap (λ (s : LimitedScale). length s.boundaries) is ∙ ap length (sym (scale-at ss a old p)) in
+    let more = sum_by_more length (scales_of ss) a [] inside in
+    omega (arith, so_far, here, more)
+
+-- those of all scales
+pub all-boundaries : (ss : List LimitedScale) (a n : ℕ) → length ss ≤ a → n ≡ sum_by length (take a (scales_of ss)) → n ≡ boundaries (scales_of ss)
+all-boundaries ss a n p so_far = so_far ∙ ap (sum_by length) (take_all a (scales_of ss) (omega (arith, p, length-map ss (λ s. s.boundaries)))) ∙ sym (sum-map length (scales_of ss))

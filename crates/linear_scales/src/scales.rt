@@ -2,10 +2,12 @@
 ghost use Rattle.std.specs.Prelude.{◌≡◌, ◌<◌, ◌≤◌, ◌↔◌, ℕ, List, [], length, replicate, slice_index_or, IsTrue, OnOk, OnErr, IfOk, IfErr};
 ghost use Rattle.grid_types.specs.Queries.{is_straight, is_lawful, begin_of, end_of};
 ghost use Rattle.grid_types.specs.declared.query.Side.{Side};
+ghost use Rattle.grid_types.specs.declared.sizes.TheConstants.{MOST_ATTRIBUTES};
 ghost use Rattle.grid_types.specs.Keys.{IsKey};
 ghost use Rattle.grid_types.specs.Regions.{contains, IsRegion};
 ghost use Rattle.grid_model.specs.Scales.{scale_of, refined_at};
 ghost use Rattle.grid_model.specs.Cells.{dims, cell_of, InCellBox};
+ghost use Rattle.grid_model.specs.Lone.{boundaries};
 ghost use Rattle.grid_model.specs.ScaleLaws.{IsCell};
 ghost use Rattle.linear_scales.specs.Limited.{LimitedScale, scales_of, limits_of};
 ghost use Rattle.linear_scales.specs.Refusals.{TakesBoundary, IsCause};
@@ -13,7 +15,7 @@ ghost use Rattle.linear_scales.specs.Sides.{Meets};
 ghost use Rattle.linear_scales.specs.Queries.{lowest_cell, highest_cell, MeetsQuery};
 
 use crate::{Scale, ScaleRefused};
-use grid_types::{CellBox, Key, Query, Region, Side};
+use grid_types::{CellBox, Key, MOST_ATTRIBUTES, Query, Region, Side};
 use std::alloc::{AllocError, Global};
 use std::marker::Model;
 
@@ -68,6 +70,18 @@ fn dims_of<const K: usize>(scales: &[Scale]) -> [u32; K]
         dims[a] = scales[a].intervals();
     }
     dims
+}
+
+/// How many boundaries the scales have together.
+fn count_boundaries(scales: &[Scale]) -> u32
+    requires few { length scales.now ≤ MOST_ATTRIBUTES }
+    ensures { result ≡ boundaries (scales_of scales.now) }
+{
+    let mut count = 0;
+    for a in 0..scales.len() {
+        count += scales[a].boundaries().len() as u32;
+    }
+    count
 }
 
 /// The intervals of each scale that meet the side of its attribute, as a box of cells.
@@ -161,6 +175,14 @@ impl<const K: usize> Scales<K> {
         ensures { result ≡ dims (scales_of self.now) }
     {
         dims_of(&self.scales)
+    }
+
+    /// How many boundaries all attributes have together.
+    pub fn boundaries(&self) -> u32
+        requires few { K ≤ MOST_ATTRIBUTES }
+        ensures { result ≡ boundaries (scales_of self.now) }
+    {
+        count_boundaries(&self.scales)
     }
 
     /// The cell of a key.

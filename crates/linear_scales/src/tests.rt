@@ -119,5 +119,6 @@ fn keys_and_queries_have_cells(rt: HostRuntime) -> Result<(), Fail> {
         }
     );
     assert_eq!(rt; copy.scale(1).boundaries(), [4, 8].as_slice());
+    assert_eq!(rt; copy.boundaries(), 3);
     Ok(())
 }
