@@ -7,3 +7,6 @@ pub mod Published
 pub mod Scaling
 pub mod Walks
 pub mod Publishes
+pub mod Beginning
+pub mod Named
+pub mod Rooted
