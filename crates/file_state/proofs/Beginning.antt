@@ -39,6 +39,15 @@ all_named pages all = all_pass (is_named pages) 0 (length pages) (λ k low high.
 pub named_if : (pages : List ℕ) (k : ℕ) → slice_index pages k < nowhere → IsTrue (is_named pages k)
 named_if pages k low = ap not (ne_eqb (slice_index pages k) nowhere (λ e. omega (arith, low, e)))
 
+-- an entry is named exactly where it is not nowhere
+pub named_apart : (pages : List ℕ) (k : ℕ) → (slice_index pages k ≡ 4294967295 → ⊥) → IsTrue (is_named pages k)
+unfolding nowhere
+named_apart pages k distinct = ap not (ne_eqb (slice_index pages k) nowhere distinct)
+
+pub not_named : (pages : List ℕ) (k : ℕ) → slice_index pages k ≡ 4294967295 → is_named pages k ≡ false
+unfolding nowhere
+not_named pages k same = ap not (eq-eqb (slice_index pages k) nowhere same)
+
 -- of the numbers below one, those that are named have begun; those behind them are free still, and so are others
 pub record HasBegun (owner : ℕ → Owner) (at : ℕ) (pages : List ℕ) (initial states : List PageState) (n : ℕ) : Type 0 where
   pub made : states ≡ all_published at (map (λ (k : ℕ). record { page = slice_index pages k; owner = owner k }) (filter (is_named pages) (below n))) initial

@@ -1,6 +1,7 @@
 -- A root that tells the current pages is one of the file.
 use Rattle.std.proofs.Common.{◌≡◌, ◌⊎◌, inl, inr, ℕ, zero, suc, ◌+◌, ◌*◌, ◌/◌, ◌%◌, ◌<◌, ◌≤◌, ◌^◌, List, [], ◌∷◌, ◌++◌, Bool, true, false, ◌&&◌, cond, Option, Some, None, refl, sym, ◌∙◌, ap, subst, map, filter, length, get_or, length-append, arith, true≢false, IsTrue, All}
 use Rattle.std.specs.Prelude.{◌≢◌, ◌==◌, not, slice_get, slice_index, slice_index_or, nat_le, nat_lt}
+use Rattle.std.specs.Int.{div_ceil}
 use Rattle.std.proofs.lemmas.Bool.{le-leb, lt-ltb, ltb-true, ne_eqb, eq-eqb, eqb-true, or_cases, cases_lt}
 use Rattle.std.proofs.lemmas.List.{length-map, get_or-map}
 use Rattle.std.proofs.lemmas.List.Folds.{list_any-append}
@@ -24,6 +25,13 @@ use Rattle.page_states.specs.Current.{TellsPages}
 use Rattle.page_states.proofs.Endings.{same_owner_refl, same_owner_is}
 use Rattle.page_states.proofs.Shown.{second_holds}
 use Rattle.file_books.specs.Books.{Books, has_page, AreBooksOf}
+use Rattle.grid_model.specs.Spellings.{RootFields}
+use Rattle.grid_model.specs.Roots.{AreRootFields}
+use Rattle.linear_scales.specs.Limited.{LimitedScale, scales_of}
+use Rattle.linear_scales.specs.Roots.{IsRoot, root_fields_of, area_of}
+use Rattle.linear_scales.specs.declared.root.Root.{Root}
+use Rattle.file_state.specs.declared.memory.Memory.{Memory}
+use Rattle.file_state.specs.Memories.{books_of}
 use Rattle.file_state.specs.Openings.{is_named}
 use Rattle.file_state.specs.Roots.{next_fields}
 use Rattle.file_state.proofs.Shown.{any_there, any_gives}
@@ -34,6 +42,10 @@ use Rattle.file_state.proofs.Named.{low_nowhere, named_count, at_most_once, all_
 first_holds : (a b : Bool) → (a && b) ≡ true → a ≡ true
 first_holds true b e = refl
 first_holds false b e = e
+
+-- how many parts so many cells fill
+pub div_ceil_is : (n : ℕ) → div_ceil n 1000 ≡ (n + 999) / 1000
+div_ceil_is n = omega arith
 
 -- the cells of the numbers of boundaries are those of the scales
 pub counted_cells : (scales : List (List ℕ)) → cells_of_counts (map length scales) ≡ cells scales
@@ -190,4 +202,29 @@ module _ {K : ℕ} (b : Books) (is : AreBooksOf K b) where
     some_buckets = is.some;
     few_buckets = fewer_buckets b is.size is.owners;
     records = is.records;
+  }
+
+-- a root in memory with the next numbers, the scales and the current pages has the next fields, and is one of the file
+module _ {K : ℕ} (m : Memory K) (is : AreBooksOf K (books_of m)) (root : Root K) (number : root.number ≡ m.roots.number + 1) (session : root.session ≡ m.counts.session) (front : root.front ≡ m.counts.front)
+    (records : root.records ≡ m.counts.records) (scales : root.scales ≡ m.scales) (count : length root.parts.items ≡ parts (scales_of m.scales)) (numbers : length root.table.items ≡ m.geometry.shape.pages)
+    (buckets : TellsPages Bucket nowhere m.pages root.table.items (length root.table.items)) (directory : TellsPages Part nowhere m.pages root.parts.items (length root.parts.items)) where
+  pub root_fields_told : root_fields_of root ≡ next_fields (books_of m)
+  root_fields_told = λ i. record {
+    number = number i;
+    session = session i;
+    front = front i;
+    records = records i;
+    boundaries = map length (scales_of (scales i));
+    parts = count i;
+    buckets = as_many_buckets (books_of m) is root.table.items root.parts.items buckets numbers directory count i;
+  }
+
+  area_same : area_of root ≡ record { scales = scales_of m.scales; parts = root.parts.items; table = root.table.items }
+  area_same = ap (λ (ss : List LimitedScale). record { scales = scales_of ss; parts = root.parts.items; table = root.table.items }) scales
+
+  pub root_told : m.roots.number < 2 ^ 63 → IsRoot m.geometry.shape root
+  root_told less = record {
+    fields = subst (AreRootFields m.geometry.shape) (sym root_fields_told) (fields_told (books_of m) is less);
+    area = subst (λ (f : RootFields). IsAreaOf m.geometry.shape f (area_of root)) (sym root_fields_told)
+        (subst (IsAreaOf m.geometry.shape (next_fields (books_of m))) (sym area_same) (area_told (books_of m) is root.table.items root.parts.items buckets numbers directory count));
   }

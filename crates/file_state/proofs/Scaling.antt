@@ -168,3 +168,8 @@ takes_note shape ss (note.Merge m) d old limits kind fresh change after = tt
 takes_note shape ss (note.Cut c right) Nothing old limits kind fresh change after = absurd kind
 takes_note shape ss (note.Cut c right) (Patch b x) old limits kind fresh change after = λ is. absurd (true≢false (sym (ap not (sym is) ∙ kind)))
 takes_note shape ss (note.Cut c right) (Grow a i b x) old limits kind fresh change after = λ is. takes_cut shape ss c right a i b x old limits is kind.1 fresh change after
+
+-- the limits of scales without boundaries
+pub limits_there : (n limit : ℕ) → limits_of (replicate n (record { boundaries = []; limit = limit })) ≡ replicate n limit
+limits_there zero limit = refl
+limits_there (suc n) limit = ap (λ (ns : List ℕ). limit ∷ ns) (limits_there n limit)

@@ -45,6 +45,7 @@ pub fn room_for_root<const K: usize>(
 fn fill(list: &mut PageList, numbers: &[u32])
     requires { length numbers.now ≡ length list.old.items }
     ensures items { list.new.items ≡ numbers.now }
+    ensures count { length list.new.items ≡ length list.old.items }
     ensures room { list.new.room ≡ list.old.room }
 {
     for i in 0..numbers.len() {

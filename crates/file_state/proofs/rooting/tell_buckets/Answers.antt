@@ -9,4 +9,4 @@ unfolding nowhere
 returns-clause-told c = subst (λ (ns : List ℕ). TellsPages Bucket nowhere c.args.states.now ns (length ns)) (sym c.fill.ensures.items) c.bucket_pages.ensures.told
 
 pub returns-clause-numbers : goal.returns-clause-numbers
-returns-clause-numbers c = ?
+returns-clause-numbers c = c.fill.ensures.count ∙ c.requires.numbers
