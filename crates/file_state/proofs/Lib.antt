@@ -10,3 +10,4 @@ pub mod Publishes
 pub mod Beginning
 pub mod Named
 pub mod Rooted
+pub mod Opened

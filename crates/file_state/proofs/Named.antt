@@ -104,7 +104,7 @@ at_most_once q (m ∷ ms) h = by (m == q) refl (at_most_once q ms (λ i j low hi
     by false e rest = rest
 
 -- and one that two indices have stands there twice
-once_there : (q : ℕ) (ns : List ℕ) (i : ℕ) → i < length ns → slice_index ns i ≡ q → 1 ≤ count q ns
+pub once_there : (q : ℕ) (ns : List ℕ) (i : ℕ) → i < length ns → slice_index ns i ≡ q → 1 ≤ count q ns
 once_there q [] i low e = absurd (omega (arith, low))
 once_there q (m ∷ ms) zero low e = subst (λ (t : Bool). 1 ≤ length (cond t (m ∷ filter (λ k. k == q) ms) (filter (λ k. k == q) ms))) (sym (eq-eqb m q e)) (omega arith)
 once_there q (m ∷ ms) (suc i) low e = omega (arith, once_there q ms i (omega (arith, low)) e, more_than_once (m == q) m (filter (λ k. k == q) ms))
@@ -126,3 +126,23 @@ all_low n ns low k d less = low (slice_index_or ns k d) (among-at ns (slice_inde
     get_or_any [] k d less = absurd (omega (arith, less))
     get_or_any (x ∷ xs) zero d less = refl
     get_or_any (x ∷ xs) (suc k) d less = get_or_any xs k d (omega (arith, less))
+
+-- a number that is not nowhere stands as often among the pages that are named
+pub count_named : (q : ℕ) (t : List ℕ) → q ≢ nowhere → count q (pages_named t) ≡ count q t
+count_named q [] named = refl
+count_named q (m ∷ ms) named = by (m == nowhere) refl (count_named q ms named)
+  where
+    unlike : (m == nowhere) ≡ true → (m == q) ≡ false
+    unlike e = ne_eqb m q (λ same. named (sym same ∙ eqb-true m nowhere e))
+
+    by : (t : Bool) → (m == nowhere) ≡ t → count q (pages_named ms) ≡ count q ms → length (filter (λ k. k == q) (cond (not t) (m ∷ pages_named ms) (pages_named ms))) ≡ length (cond (m == q) (m ∷ filter (λ k. k == q) ms) (filter (λ k. k == q) ms))
+    by true e rest = rest ∙ sym (ap (λ (b : Bool). length (cond b (m ∷ filter (λ k. k == q) ms) (filter (λ k. k == q) ms))) (unlike e))
+    by false e rest = more (m == q) rest
+      where
+        more : (b : Bool) → count q (pages_named ms) ≡ count q ms → length (cond b (m ∷ filter (λ k. k == q) (pages_named ms)) (filter (λ k. k == q) (pages_named ms))) ≡ length (cond b (m ∷ filter (λ k. k == q) ms) (filter (λ k. k == q) ms))
+        more true r = ap suc r
+        more false r = r
+
+-- how often a number stands in two lists, one behind the other
+pub count_both : (q : ℕ) (xs ys : List ℕ) → count q (xs ++ ys) ≡ count q xs + count q ys
+count_both q xs ys = ap length (filter-append (λ m. m == q) xs ys) ∙ length-append (filter (λ m. m == q) xs) (filter (λ m. m == q) ys)

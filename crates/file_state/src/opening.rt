@@ -20,6 +20,7 @@ use std::alloc::{AllocError, Global};
 
 /// The page of each bucket that a table names is current from a place on.
 fn begin_buckets(states: &mut PageStates, table: &[u32], at: u64)
+    requires few { length table.now ≤ MOST_PAGES }
     requires known { length table.now ≤ length states.old }
     requires free { AreBeginnable table.now states.old }
     ensures states { states.new
@@ -37,10 +38,11 @@ fn begin_buckets(states: &mut PageStates, table: &[u32], at: u64)
 
 /// The page of each directory part is current from a place on.
 fn begin_parts(states: &mut PageStates, parts: &[u32], at: u64)
+    requires few { length parts.now ≤ MOST_PAGES }
     requires known { length parts.now ≤ length states.old }
     requires named { All (λ p. p < nowhere) parts.now }
     requires free { AreBeginnable parts.now states.old }
-    ensures states { states.new
+    ensures { states.new
         ≡ all_published at (map (part_publication parts.now) (below (length parts.now))) states.old }
 {
     for p in 0..parts.len() {

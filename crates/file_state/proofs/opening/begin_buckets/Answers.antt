@@ -26,4 +26,4 @@ pub begin-requires-clause-free : goal.begin-requires-clause-free
 begin-requires-clause-free c = c.loop-n.invariant.free c.loop-n.n (omega arith) c.loop-n-test.true (named_apart c.args.table.now c.loop-n.n c.if-page.true)
 
 pub overflow_cast-n : goal.overflow_cast-n
-overflow_cast-n c = ?
+overflow_cast-n c = omega (arith, c.requires.few, c.loop-n-test.true)
