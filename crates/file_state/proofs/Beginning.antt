@@ -85,8 +85,8 @@ module _ (owner : ℕ → Owner) (at : ℕ) (pages : List ℕ) (initial states :
     made =
         is ∙ ap (with_newest (slice_index pages n) (owner n) at) begun.made
         ∙ sym (ap (λ (ns : List ℕ). all_published at (map publication ns) initial) longer
-          ∙ ap (λ (xs : List Publication). all_published at xs initial) (map_more publication (filter (is_named pages) (below n)) n)
-          ∙ published_append at (map publication (filter (is_named pages) (below n))) (publication n ∷ []) initial);
+        ∙ ap (λ (xs : List Publication). all_published at xs initial) (map_more publication (filter (is_named pages) (below n)) n)
+        ∙ published_append at (map publication (filter (is_named pages) (below n))) (publication n ∷ []) initial);
     free = λ j more less there. subst (λ (s : List PageState). slice_get s (slice_index pages j) ≡ Some Free) (sym is)
         (free_beside (slice_index pages n) (slice_index pages j) at (owner n) states (distinct n j (omega (arith, more)) less there) (begun.free j (omega (arith, more)) less there));
     others = λ q none was. subst (λ (s : List PageState). slice_get s q ≡ Some Free) (sym is)

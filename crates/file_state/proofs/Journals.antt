@@ -49,7 +49,7 @@ module _ {K : ℕ} (m : Memory K) (idle : Half) (j : Journal) (other : half_numb
       ∙ exchanged m (half_number idle) idle
       ∙ ap (λ (i : ℕ). record (with_used (books_of m) i 0) { half = i }) is_idle
       ∙ sym (ap (λ (t : Bool). cond {A = Books} t (record (with_used (books_of m) (idle_half (books_of m)) 0) { half = idle_half (books_of m) }) (with_used (books_of m) (idle_half (books_of m)) 0))
-        (eq-eqb (used_of (books_of m) (half_number m.journal.half)) m.geometry.shape.slots (sym same_used ∙ full)))
+      (eq-eqb (used_of (books_of m) (half_number m.journal.half)) m.geometry.shape.slots (sym same_used ∙ full)))
 
   -- and one that has a slot keeps it
   pub cleaned_not_full : (used_slots j (half_number m.journal.half) ≡ m.geometry.shape.slots → ⊥) → books_of (record m { journal = j }) ≡ cleaned_books (books_of m)
@@ -58,4 +58,4 @@ module _ {K : ℕ} (m : Memory K) (idle : Half) (j : Journal) (other : half_numb
       ∙ with_same m (half_number idle) 0
       ∙ ap (λ (i : ℕ). with_used (books_of m) i 0) is_idle
       ∙ sym (ap (λ (t : Bool). cond {A = Books} t (record (with_used (books_of m) (idle_half (books_of m)) 0) { half = idle_half (books_of m) }) (with_used (books_of m) (idle_half (books_of m)) 0))
-        (ne_eqb (used_of (books_of m) (half_number m.journal.half)) m.geometry.shape.slots (λ e. room (same_used ∙ e))))
+      (ne_eqb (used_of (books_of m) (half_number m.journal.half)) m.geometry.shape.slots (λ e. room (same_used ∙ e))))

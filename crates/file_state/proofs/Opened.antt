@@ -275,7 +275,7 @@ books_opened {K} shape root first second lawful attributes is low_first low_seco
             omega (arith, inside.1, is.area.numbers);
         buckets = sym (ap (λ (m : ℕ). length (filter (λ n. list_any (shows (Bucket n) root.front) (all_published root.front (named_publications (area_of root)) (replicate shape.pages Free))) (below m))) (sym is.area.numbers)
             ∙ count_alike (λ n. list_any (shows (Bucket n) root.front) (all_published root.front (named_publications (area_of root)) (replicate shape.pages Free))) (is_named root.table.items) (length root.table.items)
-              (λ n low. bucket_has shape.pages few root.table.items root.parts.items is.area.pages is.area.distinct root.front n ∙ among_passing (is_named root.table.items) (length root.table.items) n (λ e. low))
+            (λ n low. bucket_has shape.pages few root.table.items root.parts.items is.area.pages is.area.distinct root.front n ∙ among_passing (is_named root.table.items) (length root.table.items) n (λ e. low))
             ∙ named_count root.table.items);
       };
       some = is.fields.some_buckets;

@@ -145,11 +145,15 @@ module _ {K : ℕ} (b : Books) (is : AreBooksOf K b) where
 
     once_in_table : (q : ℕ) → (t : Bool) → is_among (pages_named table) q ≡ t → count q (pages_named table) ≤ 1
     once_in_table q false none = omega (arith, count-absent q (pages_named table) none)
-    once_in_table q true there = omega (arith, count-filter (λ p. not (p == nowhere)) q table, at_most_once q table (λ i j low high e f.
-        let one = bucket_told i (omega (arith, low, high)) (is_there i (omega (arith, low, high)) e) in
-        let two = bucket_told j high (is_there j high f) in
-        let same : i ≡ j = one_owner q i j one.0 two.0 Bucket (λ k l g. cc) (ap (slice_get b.pages) (sym e) ∙ one.1) (ap (slice_get b.pages) (sym f) ∙ two.1) in
-        omega (arith, low, same)))
+    once_in_table q true there = omega (
+      arith,
+      count-filter (λ p. not (p == nowhere)) q table,
+      at_most_once q table (λ i j low high e f.
+          let one = bucket_told i (omega (arith, low, high)) (is_there i (omega (arith, low, high)) e) in
+          let two = bucket_told j high (is_there j high f) in
+          let same : i ≡ j = one_owner q i j one.0 two.0 Bucket (λ k l g. cc) (ap (slice_get b.pages) (sym e) ∙ one.1) (ap (slice_get b.pages) (sym f) ∙ two.1) in
+          omega (arith, low, same)),
+    )
       where
         is_there : (n : ℕ) → n < length table → slice_index table n ≡ q → has_page b (Bucket n) ≡ true
         is_there n low e = sym (named_is n low) ∙ ap (λ (p : ℕ). not (p == nowhere)) e ∙ (among-filter (λ p. not (p == nowhere)) table q there).1

@@ -136,7 +136,7 @@ whole_change at b n parts pages r old first second last is one two three =
     let many : r ≡ length (map Bucket (buckets_renewed b n)) = is ∙ sym (length-map (buckets_renewed b n) Bucket) in
     three ∙ ap (all_vanished at (owners_vanishing b n))
     (two
-      ∙ ap (λ (ps : List ℕ). all_published at (publications (map Part parts) ps) first) (whole ∙ ap (λ (k : ℕ). drop k pages) many)
-      ∙ ap (all_published at (publications (map Part parts) (drop (length (map Bucket (buckets_renewed b n))) pages))) one
-      ∙ sym (published_append at (publications (map Bucket (buckets_renewed b n)) pages) (publications (map Part parts) (drop (length (map Bucket (buckets_renewed b n))) pages)) old)
-      ∙ ap (λ (xs : List Publication). all_published at xs old) (sym (publications_parted (map Bucket (buckets_renewed b n)) (map Part parts) pages)))
+    ∙ ap (λ (ps : List ℕ). all_published at (publications (map Part parts) ps) first) (whole ∙ ap (λ (k : ℕ). drop k pages) many)
+    ∙ ap (all_published at (publications (map Part parts) (drop (length (map Bucket (buckets_renewed b n))) pages))) one
+    ∙ sym (published_append at (publications (map Bucket (buckets_renewed b n)) pages) (publications (map Part parts) (drop (length (map Bucket (buckets_renewed b n))) pages)) old)
+    ∙ ap (λ (xs : List Publication). all_published at xs old) (sym (publications_parted (map Bucket (buckets_renewed b n)) (map Part parts) pages)))

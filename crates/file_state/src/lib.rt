@@ -12,8 +12,6 @@ mod publishing;
 mod reading;
 mod rooting;
 mod state;
-#[cfg(test)]
-mod tests;
 
 pub use change::Change;
 pub use rooting::room_for_root;

@@ -1,17 +1,19 @@
 //! What the state says of owners.
-ghost use Rattle.std.specs.Prelude.{◌≡◌, ◌<◌, ℕ, false, IsTrue, IfSome, IfNone};
+ghost use Rattle.std.specs.Prelude.{◌≡◌, ◌<◌, ℕ, false, IsTrue, IsSome, IfSome, IfNone};
 ghost use Rattle.grid_types.specs.declared.owner.Owner.TheVariants.{Bucket};
 ghost use Rattle.grid_model.specs.Cells.{cells};
 ghost use Rattle.linear_scales.specs.Limited.{scales_of};
 ghost use Rattle.page_states.specs.Effects.{IsPageAt};
 ghost use Rattle.page_states.specs.States.{number_of};
+ghost use Rattle.grid_types.specs.Halves.{half_number};
 ghost use Rattle.file_books.specs.Books.{has_page};
+ghost use Rattle.file_books.specs.Effects.{used_of};
 ghost use Rattle.file_state.specs.Memories.{books_of, IsMemory};
 ghost use Rattle.file_state.specs.Unused.{IsLeastUnused};
 
 use crate::memory::Memory;
 use grid_cells::Dims;
-use grid_types::Owner;
+use grid_types::{Half, Owner};
 
 /// The number of an owner.
 fn number_of(owner: Owner) -> u32
@@ -27,7 +29,7 @@ fn number_of(owner: Owner) -> u32
 pub(crate) fn page_of<const K: usize>(memory: &Memory<K>, owner: Owner) -> Option<u32>
     requires { IsMemory memory.now }
     ensures found { IfSome result (λ p. IsPageAt owner memory.now.counts.front memory.now.pages p) }
-    ensures there { IfSome result (λ p. IsTrue (has_page (books_of memory.now) owner)) }
+    ensures there { IsSome result → IsTrue (has_page (books_of memory.now) owner) }
     ensures none { IfNone result (has_page (books_of memory.now) owner ≡ false) }
 {
     if number_of(owner) >= memory.geometry.shape.pages {
@@ -65,4 +67,26 @@ pub(crate) fn cells<const K: usize>(memory: &Memory<K>) -> u32
         intervals: memory.scales.dims(),
     };
     dims.cells()
+}
+
+/// How many slots of a half are used.
+pub(crate) fn used<const K: usize>(memory: &Memory<K>, half: Half) -> u32
+    ensures { result ≡ used_of (books_of memory.now) (half_number half) }
+{
+    memory.journal.used(half)
+}
+
+/// The next slot of the current half, if it has one.
+pub(crate) fn next_slot<const K: usize>(memory: &Memory<K>) -> Option<u32>
+    requires { IsMemory memory.now }
+    ensures next { IfSome result (λ i. i ≡ used_of (books_of memory.now) (books_of memory.now).half) }
+    ensures within { IfSome result (λ i. i < memory.now.geometry.shape.slots) }
+    ensures full { IfNone result
+        (used_of (books_of memory.now) (books_of memory.now).half ≡ memory.now.geometry.shape.slots) }
+{
+    let used = used(memory, memory.journal.half);
+    if used < memory.geometry.shape.slots {
+        return Some(used);
+    }
+    None
 }

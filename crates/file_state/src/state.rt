@@ -16,12 +16,8 @@ ghost use Rattle.file_state.specs.Roots.{HasRoom, TellsBooks, next_fields};
 ghost use Rattle.file_state.specs.Unused.{IsLeastUnused};
 
 use crate::change::Change;
-use crate::keeping;
 use crate::memory::Memory;
-use crate::opening;
-use crate::publishing;
-use crate::reading;
-use crate::rooting;
+use crate::{keeping, opening, publishing, reading, rooting};
 use grid_types::{Geometry, Half, Owner, Stat};
 use linear_scales::{Root, Scales};
 use std::alloc::{AllocError, Global};
@@ -124,7 +120,7 @@ impl<const K: usize> FileState<K> {
     pub fn used(&self, half: Half) -> u32
         ensures { result ≡ used_of self.now (half_number half) }
     {
-        self.memory.journal.used(half)
+        reading::used(&self.memory, half)
     }
 
     /// The next slot of the current half, if it has one.
@@ -133,11 +129,7 @@ impl<const K: usize> FileState<K> {
         ensures within { IfSome result (λ i. i < self.now.shape.slots) }
         ensures full { IfNone result (used_of self.now self.now.half ≡ self.now.shape.slots) }
     {
-        let used = self.memory.journal.used(self.memory.journal.half);
-        if used < self.memory.geometry.shape.slots {
-            return Some(used);
-        }
-        None
+        reading::next_slot(&self.memory)
     }
 
     /// The boundaries of each attribute.
@@ -164,8 +156,12 @@ impl<const K: usize> FileState<K> {
 
     /// What is counted.
     pub fn stat(&self) -> Stat
-        ensures { result ≡ record { records = self.now.records; cells = cells self.now.scales;
-            buckets = self.now.buckets; free = count_by is_free self.now.pages } }
+        ensures { result ≡ record {
+          records = self.now.records;
+          cells = cells self.now.scales;
+          buckets = self.now.buckets;
+          free = count_by is_free self.now.pages;
+        } }
     {
         Stat {
             records: self.records(),
@@ -178,7 +174,7 @@ impl<const K: usize> FileState<K> {
     /// The page of an owner at the front.
     pub fn page_of(&self, owner: Owner) -> Option<u32>
         ensures found { IfSome result (λ p. IsPageAt owner self.now.front self.now.pages p) }
-        ensures there { IfSome result (λ p. IsTrue (has_page self.now owner)) }
+        ensures there { IsSome result → IsTrue (has_page self.now owner) }
         ensures none { IfNone result (has_page self.now owner ≡ false) }
     {
         reading::page_of(&self.memory, owner)
@@ -207,7 +203,9 @@ impl<const K: usize> FileState<K> {
     pub fn would_free(&self) -> bool
         ensures { result ≡ list_any (is_of_roots [] (self.now.rooted_at ∷ [])) self.now.pages }
     {
-        self.memory.pages.would_free(&[], &[self.memory.roots.place])
+        self.memory
+            .pages
+            .would_free(&[], &[self.memory.roots.place])
     }
 
     /// Frees the replaced pages that no root needs.

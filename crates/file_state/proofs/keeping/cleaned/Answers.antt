@@ -1,4 +1,4 @@
-use Rattle.std.proofs.Common.{◌≡◌, sym, ◌∙◌}
+use Rattle.std.proofs.Common.{sym, ◌∙◌}
 use Rattle.file_state.proofs.Journals.{cleaned_full, cleaned_not_full}
 use Rattle.file_state.proofs.keeping.cleaned.Goals as goal
 

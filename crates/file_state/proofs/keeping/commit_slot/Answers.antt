@@ -1,6 +1,4 @@
-use Rattle.std.proofs.Common.{◌≡◌, ◌+◌, ◌≤◌, ℕ, sym, ◌∙◌, ap, arith, subst, List, ◌∷◌, []}
-use Rattle.file_state.specs.Memories.{IsMemory}
-use Rattle.page_states.specs.declared.page_state.PageState.{PageState}
+use Rattle.std.proofs.Common.{◌+◌, ◌≤◌, ℕ, ◌∙◌, ap, arith}
 use Rattle.grid_types.proofs.Places.{within-limits}
 use Rattle.grid_types.specs.Halves.{half_number}
 use Rattle.file_books.specs.Effects.{with_used}

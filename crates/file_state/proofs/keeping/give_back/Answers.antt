@@ -1,4 +1,4 @@
-use Rattle.std.proofs.Common.{◌≡◌, ℕ, sym, ◌∙◌, ap, arith, subst, List, ◌∷◌, []}
+use Rattle.std.proofs.Common.{sym, subst, List}
 use Rattle.file_state.specs.Memories.{IsMemory}
 use Rattle.page_states.specs.declared.page_state.PageState.{PageState}
 use Rattle.file_state.proofs.Kept.{giving_back_kept}

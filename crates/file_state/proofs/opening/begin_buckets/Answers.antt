@@ -1,10 +1,6 @@
-use Rattle.std.proofs.Common.{◌≡◌, ◌∙◌, ◌<◌, ◌+◌, ℕ, List, sym, ap, subst, arith, length, true, false, IsTrue}
-use Rattle.std.specs.Prelude.{◌==◌, not, slice_index}
-use Rattle.std.proofs.lemmas.Bool.{ne_eqb, eq-eqb}
+use Rattle.std.proofs.Common.{◌∙◌, ◌+◌, List, sym, subst, arith}
 use Rattle.grid_types.specs.declared.owner.Owner.TheVariants.{Bucket}
-use Rattle.grid_model.specs.Lawful.{nowhere}
 use Rattle.page_states.specs.declared.page_state.PageState.{PageState}
-use Rattle.file_state.specs.Openings.{is_named}
 use Rattle.file_state.proofs.Beginning.{begin_first, begin_one, begin_none, named_apart, not_named, HasBegun}
 use Rattle.file_state.proofs.opening.begin_buckets.Goals as goal
 use Rattle.file_state.proofs.opening.begin_buckets.Goals.{then-page, else-page}

@@ -1,5 +1,4 @@
 use Rattle.std.proofs.Common.{◌≡◌, ◌∙◌, ◌<◌, ℕ, List, ap, arith, length, map, filter, IsTrue}
-use Rattle.std.specs.Prelude.{slice_index}
 use Rattle.grid_types.specs.declared.owner.Owner.TheVariants.{Part}
 use Rattle.grid_model.specs.Lists.{below}
 use Rattle.layout_pages.specs.Steps.{part_publication}

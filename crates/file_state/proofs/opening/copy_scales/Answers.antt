@@ -1,4 +1,4 @@
-use Rattle.std.proofs.Common.{◌≡◌, sym, ap, ◌∙◌, arith}
+use Rattle.std.proofs.Common.{sym, ap, ◌∙◌, arith}
 use Rattle.linear_scales.specs.Limited.{limits_of}
 use Rattle.file_state.proofs.Scaling.{limits_there}
 use Rattle.file_state.proofs.opening.copy_scales.Goals as goal

@@ -1,4 +1,4 @@
-use Rattle.std.proofs.Common.{◌≡◌, ◌≤◌, ◌<◌, ◌+◌, ℕ, Bool, true, false, cond, List, sym, ap, ◌∙◌, length, take, arith}
+use Rattle.std.proofs.Common.{◌≡◌, ◌≤◌, ◌<◌, ◌+◌, ℕ, Bool, true, false, cond, List, ap, ◌∙◌, length, take, arith}
 use Rattle.grid_model.specs.Lawful.{pages_named}
 use Rattle.file_state.specs.Openings.{is_named}
 use Rattle.file_state.proofs.Beginning.{named_apart, not_named}

@@ -1,4 +1,4 @@
-use Rattle.std.proofs.Common.{◌≡◌, ◌∙◌, ℕ, List, ap, length, arith}
+use Rattle.std.proofs.Common.{◌∙◌, ℕ, List, ap, length, arith}
 use Rattle.std.specs.Prelude.{slice_index}
 use Rattle.grid_model.specs.Lawful.{pages_named}
 use Rattle.grid_types.proofs.Places.{within-limits}

@@ -1,7 +1,6 @@
-use Rattle.std.proofs.Common.{◌≡◌, ◌<◌, ◌≤◌, ◌*◌, ℕ, List, sym, ap, subst, ◌∙◌, length, arith}
+use Rattle.std.proofs.Common.{◌≡◌, ◌<◌, ◌≤◌, ◌*◌, ℕ, List, sym, subst, length, arith}
 use Rattle.grid_types.proofs.Places.{within-limits}
 use Rattle.grid_cells.specs.Dims.{IsDims}
-use Rattle.grid_model.specs.Cells.{dims}
 use Rattle.linear_scales.specs.Limited.{scales_of}
 use Rattle.directory_changes.specs.Changes.{IsChangeOf, parts_after, parts_changed}
 use Rattle.layout_pages.specs.Steps.{buckets_renewed, owners_renewed}
@@ -30,20 +29,39 @@ pub publish_pages-requires : goal.publish_pages-requires
 publish_pages-requires g c =
     let few : c.args.memory.now.geometry.shape.k ≤ 4 = (within-limits c.args.memory.now.geometry.shape c.requires.memory.books.lawful).few_attributes in
     let same : c.args.memory.now.geometry.shape.k ≡ g.row.K = c.requires.memory.books.attributes in
-    let size : length c.args.memory.now.pages ≡ c.args.memory.now.geometry.shape.pages = c.requires.memory.books.size in
-    (omega (arith, few, same), (omega (arith, few, same), (omega (arith, few, same),
-    (subst (λ (ns : List ℕ). IsChangeOf {K = g.row.K} ns c.args.change.now.directory) (sym c.dims.ensures) c.requires.change.directory,
-    (c.requires.change.claimed,
-    (subst (λ (ns : List ℕ). length c.args.pages.now ≡ length (owners_renewed c.args.change.now.bucket c.args.change.now.note (parts_changed {K = g.row.K} ns c.args.change.now.directory))) (sym c.dims.ensures) c.requires.change.count,
-    (subst (λ (n : ℕ). AreNumbersBelow n (buckets_renewed c.args.change.now.bucket c.args.change.now.note)) (sym size) (renewed_below (books_of c.args.memory.now) c.args.change.now.bucket c.args.change.now.note c.requires.memory.books.owners c.requires.change.bucket c.requires.change.other),
-    (subst (λ (n : ℕ). AreNumbersBelow n (buckets_vanishing c.args.change.now.bucket c.args.change.now.note)) (sym size) (vanishing_below (books_of c.args.memory.now) c.args.change.now.bucket c.args.change.now.note c.requires.memory.books.owners c.requires.change.bucket c.requires.change.other),
-    subst (λ (ns : List ℕ). parts_after {K = g.row.K} ns c.args.change.now.directory ≤ length c.args.memory.now.pages) (sym c.dims.ensures)
-    (omega (arith, size, parts_have_room {K = g.row.K} (books_of c.args.memory.now) (publishing_of c.args.change.now c.args.pages.now) c.requires.memory.books c.requires.change))))))))))
+    let size : length c.args.memory.now.pages ≡ c.args.memory.now.geometry.shape.pages = c.requires.memory.books.size in (
+      omega (arith, few, same),
+      (
+        omega (arith, few, same),
+        (
+          omega (arith, few, same),
+          (
+            subst (λ (ns : List ℕ). IsChangeOf {K = g.row.K} ns c.args.change.now.directory) (sym c.dims.ensures) c.requires.change.directory,
+            (
+              c.requires.change.claimed,
+              (
+                subst (λ (ns : List ℕ). length c.args.pages.now ≡ length (owners_renewed c.args.change.now.bucket c.args.change.now.note (parts_changed {K = g.row.K} ns c.args.change.now.directory))) (sym c.dims.ensures) c.requires.change.count,
+                (
+                  subst (λ (n : ℕ). AreNumbersBelow n (buckets_renewed c.args.change.now.bucket c.args.change.now.note)) (sym size) (renewed_below (books_of c.args.memory.now) c.args.change.now.bucket c.args.change.now.note c.requires.memory.books.owners c.requires.change.bucket c.requires.change.other),
+                  (
+                    subst (λ (n : ℕ). AreNumbersBelow n (buckets_vanishing c.args.change.now.bucket c.args.change.now.note)) (sym size) (vanishing_below (books_of c.args.memory.now) c.args.change.now.bucket c.args.change.now.note c.requires.memory.books.owners c.requires.change.bucket c.requires.change.other),
+                    subst (λ (ns : List ℕ). parts_after {K = g.row.K} ns c.args.change.now.directory ≤ length c.args.memory.now.pages) (sym c.dims.ensures)
+                        (omega (arith, size, parts_have_room {K = g.row.K} (books_of c.args.memory.now) (publishing_of c.args.change.now c.args.pages.now) c.requires.memory.books c.requires.change)),
+                  ),
+                ),
+              ),
+            ),
+          ),
+        ),
+      ),
+    )
 
 pub refine-requires : goal.refine-requires
-refine-requires g c =
-    (omega arith, takes_note c.args.memory.now.geometry.shape c.args.memory.now.scales c.args.change.now.note c.args.change.now.directory c.requires.memory.books.scales c.requires.memory.limits
-    c.requires.change.kind c.requires.change.fresh c.requires.change.directory c.requires.change.scales)
+refine-requires g c = (
+  omega arith,
+  takes_note c.args.memory.now.geometry.shape c.args.memory.now.scales c.args.change.now.note c.args.change.now.directory c.requires.memory.books.scales c.requires.memory.limits
+      c.requires.change.kind c.requires.change.fresh c.requires.change.directory c.requires.change.scales,
+)
 
 pub buckets_after-buckets-requires-clause-few : goal.buckets_after-buckets-requires-clause-few
 buckets_after-buckets-requires-clause-few g c =

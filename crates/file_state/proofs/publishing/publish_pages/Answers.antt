@@ -1,7 +1,6 @@
-use Rattle.std.proofs.Common.{◌≡◌, ◌<◌, ◌≤◌, ◌-◌, ℕ, List, sym, ap, ◌∙◌, subst, map, length, take, drop, arith}
-use Rattle.page_states.specs.declared.page_state.PageState.{PageState}
+use Rattle.std.proofs.Common.{◌≡◌, ◌≤◌, ◌-◌, ℕ, sym, ap, ◌∙◌, subst, map, length, take, drop, arith}
 use Rattle.layout_pages.specs.Steps.{buckets_renewed, publications}
-use Rattle.directory_changes.specs.Changes.{parts_changed, parts_after}
+use Rattle.directory_changes.specs.Changes.{parts_changed}
 use Rattle.grid_types.specs.declared.owner.Owner.TheVariants.{Part}
 use Rattle.file_state.specs.Publishings.{AreNumbersBelow, buckets_vanishing}
 use Rattle.file_state.proofs.Walks.{IsBehind, behind, whole_change, published_length}

@@ -1,4 +1,4 @@
-use Rattle.std.proofs.Common.{◌≡◌, ◌<◌, ◌≤◌, ◌+◌, ℕ, List, true, refl, sym, ◌∙◌, ap, subst, length, filter, map, arith}
+use Rattle.std.proofs.Common.{◌≡◌, ◌<◌, ◌+◌, ℕ, List, true, sym, ◌∙◌, ap, subst, length, filter, map, arith}
 use Rattle.std.specs.Prelude.{slice_index}
 use Rattle.grid_types.specs.declared.owner.Owner.TheVariants.{Part}
 use Rattle.grid_model.specs.Lists.{below, is_among}

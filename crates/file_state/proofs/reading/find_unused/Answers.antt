@@ -1,4 +1,4 @@
-use Rattle.std.proofs.Common.{◌≡◌, ◌<◌, ℕ, true, false, inl, inr, sym, ap, subst, arith, IsTrue}
+use Rattle.std.proofs.Common.{◌≡◌, ◌<◌, ℕ, true, false, inl, inr, refl, sym, ap, subst, arith, IsTrue}
 use Rattle.std.proofs.lemmas.Bool.{cases_lt}
 use Rattle.grid_types.specs.declared.owner.Owner.TheVariants.{Bucket}
 use Rattle.file_books.specs.Books.{has_page}
@@ -21,7 +21,7 @@ loop-number-preserved g c = record {
     | inl less ↦ c.loop-number.invariant.used n less
     | inr more ↦
         let is : n ≡ c.loop-number.number = omega (arith, low, more) in
-        subst (λ (m : ℕ). IsTrue (has_page (books_of c.loop-number.memory) (Bucket m))) (sym is) c.in-Some.ensures.there
+        subst (λ (m : ℕ). IsTrue (has_page (books_of c.loop-number.memory) (Bucket m))) (sym is) (c.in-Some.ensures.there refl)
   ];
 }
 

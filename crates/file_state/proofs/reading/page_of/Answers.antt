@@ -1,4 +1,4 @@
-use Rattle.std.proofs.Common.{◌≡◌, ℕ, List, true, false, Option, Some, None, refl, sym, ap, subst, arith, IfSome, IfNone}
+use Rattle.std.proofs.Common.{◌≡◌, ℕ, List, true, false, Option, Some, None, sym, arith, IsSome, IfSome, IfNone, true≢false}
 use Rattle.std.specs.List.{list_any}
 use Rattle.grid_types.specs.declared.owner.Owner.{Owner}
 use Rattle.page_states.specs.declared.page_state.PageState.{PageState}
@@ -10,9 +10,9 @@ use Rattle.file_state.proofs.Shown.{any_there, none_shown}
 use Rattle.file_state.proofs.reading.page_of.Goals as goal
 
 -- a page that is found is there
-there : (o : Owner) (place : ℕ) (states : List PageState) (r : Option ℕ) → IfSome r (λ p. IsPageAt o place states p) → IfSome r (λ p. list_any (shows o place) states ≡ true)
-there o place states None found = found
-there o place states (Some p) found = any_there (shows o place) states p found.state found.there found.shown
+there : (o : Owner) (place : ℕ) (states : List PageState) (r : Option ℕ) → IfSome r (λ p. IsPageAt o place states p) → IsSome r → list_any (shows o place) states ≡ true
+there o place states None found some = absurd (true≢false (sym some))
+there o place states (Some p) found some = any_there (shows o place) states p found.state found.there found.shown
 
 none : (o : Owner) (place : ℕ) (states : List PageState) (r : Option ℕ) → IfNone r (ShowsNone o place states) → IfNone r (list_any (shows o place) states ≡ false)
 none o place states None is = none_shown o place states is

@@ -1,6 +1,6 @@
-use Rattle.std.proofs.Common.{◌≡◌, ◌≤◌, ◌+◌, ◌/◌, ℕ, arith, refl, ap, sym, ◌∙◌}
+use Rattle.std.proofs.Common.{◌≡◌, ◌+◌, ◌/◌, ℕ, arith, refl, ap, ◌∙◌}
 use Rattle.grid_types.proofs.Places.{within-limits}
-use Rattle.grid_model.specs.Cells.{cells, parts}
+use Rattle.grid_model.specs.Cells.{parts}
 use Rattle.linear_scales.specs.Limited.{scales_of}
 use Rattle.file_state.specs.Memories.{books_of}
 use Rattle.file_state.proofs.Rooms.{fewer_parts}

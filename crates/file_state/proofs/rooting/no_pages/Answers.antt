@@ -1,4 +1,4 @@
-use Rattle.std.proofs.Common.{◌≡◌, rules}
+use Rattle.std.proofs.Common.{rules}
 use Rattle.grid_model.specs.Lawful.{nowhere}
 use Rattle.file_state.proofs.rooting.no_pages.Goals as goal
 

@@ -1,4 +1,4 @@
-use Rattle.std.proofs.Common.{◌≡◌, ◌∙◌, ℕ, zero, suc, List, [], ◌∷◌, refl, ap, replicate, length, arith}
+use Rattle.std.proofs.Common.{◌∙◌, ap, length, arith}
 use Rattle.std.proofs.lemmas.List.{length-replicate}
 use Rattle.grid_model.specs.Lawful.{nowhere}
 use Rattle.linear_scales.specs.Limited.{limits_of}

@@ -1,4 +1,4 @@
-use Rattle.std.proofs.Common.{◌≡◌, ◌∙◌, ℕ, List, sym, ap, subst, length}
+use Rattle.std.proofs.Common.{◌∙◌, ℕ, List, sym, subst, length}
 use Rattle.grid_types.specs.declared.owner.Owner.TheVariants.{Bucket}
 use Rattle.grid_model.specs.Lawful.{nowhere}
 use Rattle.page_states.specs.Current.{TellsPages}

@@ -1,4 +1,4 @@
-use Rattle.std.proofs.Common.{◌≡◌, ◌∙◌, ℕ, List, sym, ap, subst, length, take_all, arith}
+use Rattle.std.proofs.Common.{◌∙◌, ℕ, List, sym, subst, length, take_all, arith}
 use Rattle.grid_types.specs.declared.owner.Owner.TheVariants.{Part}
 use Rattle.grid_model.specs.Lawful.{nowhere}
 use Rattle.page_states.specs.Current.{TellsPages}
