@@ -1,10 +1,10 @@
 -- Pages that a root names begin one after the other.
-use Rattle.std.proofs.Common.{◌≡◌, ℕ, zero, suc, ◌+◌, ◌<◌, ◌≤◌, List, [], ◌∷◌, ◌++◌, Bool, true, false, cond, Some, None, append-nil, refl, sym, ◌∙◌, ap, subst, map, filter, replicate, length, length-append, arith, true≢false, IsTrue, All}
-use Rattle.std.specs.Prelude.{◌≢◌, ◌==◌, not, slice_get, slice_set, slice_index}
+use Rattle.std.proofs.Common.{◌≡◌, ℕ, zero, suc, ◌+◌, ◌<◌, ◌≤◌, List, [], ◌∷◌, ◌++◌, Bool, true, false, cond, Some, None, append-nil, refl, sym, ◌∙◌, ap, subst, map, filter, length, arith, IsTrue}
+use Rattle.std.specs.Prelude.{◌≢◌, not, slice_get, slice_index}
 use Rattle.std.specs.List.{range_with_len}
 use Rattle.std.specs.Option.{option_map}
 use Rattle.std.proofs.lemmas.Option.{slice_get-map}
-use Rattle.std.proofs.lemmas.Bool.{eq-eqb, ne_eqb, eqb-true}
+use Rattle.std.proofs.lemmas.Bool.{eq-eqb, ne_eqb}
 use Rattle.grid_types.specs.declared.owner.Owner.{Owner}
 use Rattle.grid_model.specs.Lists.{below}
 use Rattle.grid_model.specs.Lawful.{nowhere}
@@ -15,7 +15,7 @@ use Rattle.page_states.specs.Effects.{with_end, with_newest}
 use Rattle.page_states.specs.Changes.{Publication, all_published}
 use Rattle.page_states.proofs.Lists.{get_set_other}
 use Rattle.page_states.proofs.PagesStay.{pages_stay}
-use Rattle.file_state.specs.Openings.{is_named, IsNoneOf, OthersStayFree, AreBeginnable}
+use Rattle.file_state.specs.Openings.{is_named, OthersStayFree, AreBeginnable}
 use Rattle.file_state.proofs.Walks.{published_append}
 
 -- another free page is free still

@@ -1,8 +1,8 @@
 -- How many numbers below another one pass a test, while one of them changes.
-use Rattle.std.proofs.Common.{◌≡◌, ◌⊎◌, inl, inr, ℕ, zero, suc, ◌+◌, ◌<◌, ◌≤◌, List, [], ◌∷◌, Bool, true, false, ◌||◌, cond, refl, sym, ◌∙◌, ap, filter, length, arith, true≢false}
-use Rattle.std.specs.Prelude.{◌≢◌, ◌==◌, nat_lt}
+use Rattle.std.proofs.Common.{◌≡◌, ◌⊎◌, inl, inr, ℕ, zero, suc, ◌+◌, ◌<◌, ◌≤◌, Bool, true, false, cond, refl, sym, ◌∙◌, ap, filter, length, arith}
+use Rattle.std.specs.Prelude.{◌≢◌, nat_lt}
 use Rattle.std.specs.Cmp.{both_ways}
-use Rattle.std.proofs.lemmas.Bool.{cases_eq, eq-eqb, ne_eqb, lt-ltb, ltb-true}
+use Rattle.std.proofs.lemmas.Bool.{cases_eq, lt-ltb, ltb-true}
 use Rattle.grid_model.specs.Lists.{below, is_among}
 use Rattle.grid_model.proofs.Counts.{among-filter, among-range, range-among}
 use Rattle.grid_model.proofs.Members.{contains-filter, contains-range, among-from-contains}

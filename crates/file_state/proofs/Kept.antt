@@ -1,6 +1,6 @@
 -- Steps that leave whose each page is at the front leave the books of a file lawful.
-use Rattle.std.proofs.Common.{◌≡◌, ℕ, suc, ◌<◌, ◌≤◌, List, [], ◌∷◌, Bool, true, false, ◌&&◌, ◌||◌, not, cond, Option, Some, None, refl, sym, ◌∙◌, ap, subst, map, filter, length, take, arith}
-use Rattle.std.specs.Prelude.{slice_get, nat_le, nat_lt}
+use Rattle.std.proofs.Common.{◌≡◌, ℕ, suc, ◌≤◌, List, [], ◌∷◌, Bool, ◌&&◌, ◌||◌, not, cond, Some, None, refl, sym, ◌∙◌, ap, subst, filter, length, take}
+use Rattle.std.specs.Prelude.{slice_get, nat_le}
 use Rattle.std.specs.List.{list_any}
 use Rattle.std.proofs.lemmas.Bool.{le-ltb}
 use Rattle.grid_types.specs.declared.owner.Owner.{Owner}
@@ -17,8 +17,7 @@ use Rattle.page_states.proofs.KeptPlaces.{sweep_keeps_places, giving_back_keeps}
 use Rattle.page_states.proofs.ClaimedPages.{claim_keeps_places}
 use Rattle.page_states.proofs.SettledPlaces.{freeing_settles, claim_settles}
 use Rattle.page_states.proofs.PagesStay.{pages_stay}
-use Rattle.file_books.specs.Books.{Books, has_page, AreBooksOf, OwnersHavePages}
-use Rattle.file_books.specs.Effects.{root_places}
+use Rattle.file_books.specs.Books.{Books, has_page, OwnersHavePages}
 use Rattle.file_state.specs.declared.memory.Memory.{Memory}
 use Rattle.file_state.specs.Memories.{books_of, IsMemory}
 use Rattle.file_state.proofs.Shown.{content_at, no_bytes, serves_shown, some_content, few_shown, shown_is}

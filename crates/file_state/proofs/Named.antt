@@ -1,12 +1,12 @@
 -- The pages that a table or a list names, by number.
-use Rattle.std.proofs.Common.{◌≡◌, ℕ, zero, suc, ◌+◌, ◌<◌, ◌≤◌, List, [], ◌∷◌, ◌++◌, Bool, true, false, cond, append-nil, refl, sym, ◌∙◌, ap, subst, map, filter, length, take, get_or, length-append, take_all, arith, true≢false, IsTrue, All, eqb-true, eq-eqb}
+use Rattle.std.proofs.Common.{◌≡◌, ℕ, zero, suc, ◌+◌, ◌<◌, ◌≤◌, List, [], ◌∷◌, ◌++◌, Bool, true, false, cond, append-nil, refl, sym, ◌∙◌, ap, subst, map, filter, length, take, length-append, take_all, arith, All, eqb-true, eq-eqb}
 use Rattle.std.specs.Prelude.{◌≢◌, ◌==◌, not, slice_index, slice_index_or}
 use Rattle.std.specs.List.{range_with_len}
 use Rattle.std.proofs.Math.Seq.{take-suc}
 use Rattle.std.proofs.lemmas.Bool.{ne_eqb}
 use Rattle.std.proofs.lemmas.List.{length-map}
 use Rattle.std.proofs.lemmas.List.Elements.{filter-append}
-use Rattle.grid_model.specs.Lists.{below, is_among, AreDistinct}
+use Rattle.grid_model.specs.Lists.{below, is_among}
 use Rattle.grid_model.specs.Lawful.{nowhere, pages_named}
 use Rattle.grid_model.proofs.Boundaries.{among-at, among-index}
 use Rattle.grid_model.proofs.Counts.{count, count-absent}

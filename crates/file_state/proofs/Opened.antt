@@ -1,8 +1,7 @@
 -- The books of a root that is opened are those of a file.
-use Rattle.std.proofs.Common.{◌≡◌, ◌⊎◌, inl, inr, ℕ, zero, suc, ◌+◌, ◌*◌, ◌/◌, ◌<◌, ◌≤◌, ◌^◌, List, [], ◌∷◌, ◌++◌, Bool, true, false, ◌||◌, cond, Option, Some, None, refl, sym, ◌∙◌, ap, subst, map, filter, replicate, length, length-append, take_all, arith, true≢false, IsTrue, All}
+use Rattle.std.proofs.Common.{◌≡◌, ℕ, zero, suc, ◌+◌, ◌<◌, ◌≤◌, List, [], ◌∷◌, ◌++◌, Bool, true, false, ◌||◌, cond, Option, Some, None, refl, sym, ◌∙◌, ap, subst, map, filter, replicate, length, length-append, take_all, arith, IsTrue, All}
 use Rattle.std.specs.Prelude.{◌≢◌, ◌==◌, not, slice_get, slice_set, slice_index, slice_index_or, is_some, nat_lt, Contains}
 use Rattle.std.specs.List.{list_any, count_by}
-use Rattle.std.proofs.lemmas.Bool.{eqb-true, ne_eqb}
 use Rattle.std.proofs.lemmas.List.{length-map, get_or-map, length-replicate}
 use Rattle.std.proofs.lemmas.List.Folds.{list_any-append}
 use Rattle.grid_types.specs.declared.half.Half.TheVariants.{First}
@@ -13,8 +12,6 @@ use Rattle.grid_types.specs.Owners.{same_owner}
 use Rattle.grid_types.specs.Shapes.{is_shape, word_pages}
 use Rattle.grid_types.proofs.Places.{within-limits}
 use Rattle.grid_model.specs.Lists.{below, is_among, AreDistinct}
-use Rattle.grid_model.specs.Scales.{scale_of}
-use Rattle.grid_model.specs.Cells.{parts}
 use Rattle.grid_model.specs.Images.{numbers_of}
 use Rattle.grid_model.specs.Lawful.{nowhere, pages_named}
 use Rattle.grid_model.proofs.Boundaries.{among-at, among-index}
@@ -38,7 +35,7 @@ use Rattle.layout_pages.specs.Steps.{bucket_publication, part_publication, named
 use Rattle.linear_scales.specs.Limited.{LimitedScale, scales_of, limits_of}
 use Rattle.linear_scales.specs.Roots.{IsRoot, whole_of, area_of}
 use Rattle.linear_scales.specs.declared.root.Root.{Root}
-use Rattle.file_books.specs.Books.{Books, AreBooksOf, OwnersHavePages}
+use Rattle.file_books.specs.Books.{AreBooksOf}
 use Rattle.file_books.specs.Effects.{opened_books}
 use Rattle.grid_types.specs.declared.geometry.Geometry.{Geometry}
 use Rattle.file_state.specs.declared.memory.Memory.{Memory}

@@ -1,6 +1,6 @@
 -- Whose each page is after a change is published.
-use Rattle.std.proofs.Common.{◌≡◌, ◌⊎◌, inl, inr, ℕ, zero, suc, ◌+◌, ◌-◌, ◌<◌, ◌≤◌, List, [], ◌∷◌, ◌++◌, Bool, true, false, ◌||◌, cond, Option, Some, None, refl, sym, ◌∙◌, ap, subst, map, filter, length, max, min, arith, true≢false, IsTrue}
-use Rattle.std.specs.Prelude.{◌≢◌, ◌==◌, is_some, nat_lt}
+use Rattle.std.proofs.Common.{◌≡◌, ◌⊎◌, inl, inr, ℕ, ◌+◌, ◌<◌, ◌≤◌, List, [], ◌∷◌, Bool, true, false, ◌||◌, cond, Option, Some, refl, sym, ◌∙◌, ap, subst, map, filter, length, max, min, arith, true≢false}
+use Rattle.std.specs.Prelude.{◌≢◌, ◌==◌, is_some}
 use Rattle.std.specs.List.{list_any, count_by}
 use Rattle.std.proofs.lemmas.Bool.{cases_eq, cases_lt, eq-eqb, ne_eqb, eqb-true}
 use Rattle.std.proofs.lemmas.List.Folds.{list_any-append}
@@ -11,7 +11,6 @@ use Rattle.grid_types.specs.declared.layout_change.LayoutChange.{LayoutChange}
 use Rattle.grid_types.specs.declared.layout_change.LayoutChange.TheVariants as note
 use Rattle.grid_types.specs.Owners.{same_owner}
 use Rattle.grid_model.specs.Lists.{below, is_among}
-use Rattle.grid_model.specs.Cells.{parts}
 use Rattle.grid_model.proofs.Counts.{swap-eq}
 use Rattle.grid_model.proofs.Truths.{or-left, or-right}
 use Rattle.page_states.specs.declared.page_state.PageState.{PageState}
@@ -21,7 +20,7 @@ use Rattle.page_states.specs.Changes.{Publication, pages_of, changed, with_pages
 use Rattle.page_states.proofs.WholeChanges.{change_serves, change_settles}
 use Rattle.layout_pages.specs.Steps.{publications, buckets_renewed, owners_renewed, owners_vanishing}
 use Rattle.file_books.specs.Books.{Books, has_page, OwnersHavePages}
-use Rattle.file_books.specs.Effects.{HasOther, buckets_after}
+use Rattle.file_books.specs.Effects.{buckets_after}
 use Rattle.file_state.specs.Publishings.{unused_after}
 use Rattle.file_state.specs.Memories.{AreUsedBelow}
 use Rattle.file_state.proofs.Shown.{content_at, no_bytes, serves_shown, few_shown, shown_is, some_content}

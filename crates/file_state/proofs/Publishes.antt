@@ -1,23 +1,21 @@
 -- A change that may be published leaves what memory keeps lawful.
-use Rattle.std.proofs.Common.{◌≡◌, ℕ, zero, suc, ◌+◌, ◌*◌, ◌<◌, ◌≤◌, List, [], ◌∷◌, Bool, true, false, ◌||◌, cond, Option, Some, None, refl, sym, ◌∙◌, ap, subst, map, filter, replicate, length, min, max, arith, All, IsTrue}
-use Rattle.std.specs.Prelude.{◌==◌, is_some, nat_lt, slice_index_or}
+use Rattle.std.proofs.Common.{◌≡◌, ℕ, zero, suc, ◌+◌, ◌*◌, ◌<◌, ◌≤◌, List, [], ◌∷◌, Bool, true, false, ◌||◌, cond, Option, None, refl, sym, ◌∙◌, ap, subst, length, min, max, arith, IsTrue}
+use Rattle.std.specs.Prelude.{◌==◌, is_some}
 use Rattle.std.specs.List.{list_any}
-use Rattle.grid_types.specs.declared.owner.Owner.{Owner}
-use Rattle.grid_types.specs.declared.owner.Owner.TheVariants.{Bucket, Part}
+use Rattle.grid_types.specs.declared.owner.Owner.TheVariants.{Bucket}
 use Rattle.grid_types.specs.declared.layout_change.LayoutChange.{LayoutChange}
 use Rattle.grid_types.specs.declared.layout_change.LayoutChange.TheVariants as note
-use Rattle.grid_model.specs.Lists.{below, is_among}
-use Rattle.grid_model.specs.Cells.{dims, parts}
-use Rattle.grid_model.proofs.Counts.{swap-eq}
+use Rattle.grid_model.specs.Lists.{is_among}
+use Rattle.grid_model.specs.Cells.{dims}
 use Rattle.page_states.specs.declared.page_state.PageState.{PageState}
 use Rattle.page_states.specs.States.{shows}
-use Rattle.page_states.specs.Changes.{with_pages, without_owners, all_published, all_vanished, ArePublishable}
+use Rattle.page_states.specs.Changes.{with_pages, without_owners, all_published, all_vanished}
 use Rattle.page_states.proofs.PagesStay.{pages_stay}
 use Rattle.layout_pages.specs.Steps.{publications, buckets_renewed, owners_renewed, owners_vanishing, published_states}
 use Rattle.linear_scales.specs.Limited.{LimitedScale, scales_of, limits_of}
 use Rattle.directory_changes.specs.Changes.{parts_after, parts_changed}
 use Rattle.file_books.specs.Books.{Books, has_page, AreBooksOf, OwnersHavePages}
-use Rattle.file_books.specs.Effects.{Publishing, IsPublishable, HasOther, buckets_after, records_after, scales_after_change, published_books, parts_renewed}
+use Rattle.file_books.specs.Effects.{Publishing, IsPublishable, HasOther, buckets_after, records_after, scales_after_change, published_books}
 use Rattle.file_books.specs.declared.record_change.RecordChange.{RecordChange}
 use Rattle.file_books.specs.declared.record_change.RecordChange.TheVariants.{More, Same, Fewer}
 use Rattle.file_state.specs.declared.memory.Memory.{Memory}

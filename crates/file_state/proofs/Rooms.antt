@@ -1,24 +1,22 @@
 -- There are more data pages than buckets: each owner has a page of its own, and there is a directory part.
-use Rattle.std.proofs.Common.{◌≡◌, ℕ, zero, suc, ◌+◌, ◌*◌, ◌/◌, ◌<◌, ◌≤◌, List, [], ◌∷◌, ◌++◌, Bool, true, false, cond, Option, Some, None, refl, sym, ◌∙◌, ap, map, filter, length, length-append, arith, true≢false, IsTrue}
+use Rattle.std.proofs.Common.{◌≡◌, ℕ, zero, suc, ◌+◌, ◌<◌, ◌≤◌, List, [], ◌∷◌, ◌++◌, Bool, true, false, cond, refl, sym, ◌∙◌, ap, map, length, length-append, arith}
 use Rattle.std.specs.Prelude.{◌==◌, is_some, slice_index}
 use Rattle.std.specs.List.{count_by}
 use Rattle.std.proofs.lemmas.List.{length-map}
 use Rattle.std.proofs.lemmas.List.FromFn.{length-range_with_len}
 use Rattle.std.proofs.lemmas.List.Sums.{sum_by-cons, sum_by-append, count_by-le-length, length-filter}
 use Rattle.std.proofs.lemmas.Bool.{ltb-true}
-use Rattle.std.proofs.Math.Nat.{mul-le-mul}
 use Rattle.grid_types.specs.declared.owner.Owner.{Owner}
 use Rattle.grid_types.specs.declared.owner.Owner.TheVariants.{Bucket, Part}
 use Rattle.grid_types.specs.Owners.{same_owner}
-use Rattle.grid_model.specs.Lists.{below, is_among, AreDistinct, product}
+use Rattle.grid_model.specs.Lists.{below, is_among, AreDistinct}
 use Rattle.grid_model.specs.Cells.{dims, cells, parts}
 use Rattle.grid_model.proofs.Counts.{swap-eq, range-distinct, filter-distinct}
 use Rattle.grid_cells.proofs.Products.{product-positive}
 use Rattle.page_states.specs.Counts.{once}
-use Rattle.page_states.specs.States.{is_current, number_of, shows}
-use Rattle.page_states.specs.Laws.{Serves}
+use Rattle.page_states.specs.States.{is_current, number_of}
 use Rattle.page_states.proofs.OwnersCounted.{current_pages_are_owners}
-use Rattle.file_books.specs.Books.{Books, has_page, numbers_now, OwnersHavePages, AreBooksOf}
+use Rattle.file_books.specs.Books.{Books, has_page, numbers_now, OwnersHavePages}
 use Rattle.file_state.specs.Memories.{AreUsedBelow}
 use Rattle.file_state.proofs.Shown.{content_at, no_bytes, serves_shown, counted, once_content}
 use Rattle.file_state.proofs.Filters.{among_passing, among_below, count_all}

@@ -1,8 +1,8 @@
 -- A root that tells the current pages is one of the file.
-use Rattle.std.proofs.Common.{◌≡◌, ◌⊎◌, inl, inr, ℕ, zero, suc, ◌+◌, ◌*◌, ◌/◌, ◌%◌, ◌<◌, ◌≤◌, ◌^◌, List, [], ◌∷◌, ◌++◌, Bool, true, false, ◌&&◌, cond, Option, Some, None, refl, sym, ◌∙◌, ap, subst, map, filter, length, get_or, length-append, arith, true≢false, IsTrue, All}
-use Rattle.std.specs.Prelude.{◌≢◌, ◌==◌, not, slice_get, slice_index, slice_index_or, nat_le, nat_lt}
+use Rattle.std.proofs.Common.{◌≡◌, ◌⊎◌, inl, inr, ℕ, zero, suc, ◌+◌, ◌*◌, ◌/◌, ◌%◌, ◌<◌, ◌≤◌, ◌^◌, List, [], ◌∷◌, ◌++◌, Bool, true, false, ◌&&◌, Some, None, refl, sym, ◌∙◌, ap, subst, map, filter, length, length-append, arith, true≢false, IsTrue}
+use Rattle.std.specs.Prelude.{◌==◌, not, slice_get, slice_index, slice_index_or, nat_le, nat_lt}
 use Rattle.std.specs.Int.{div_ceil}
-use Rattle.std.proofs.lemmas.Bool.{le-leb, lt-ltb, ltb-true, ne_eqb, eq-eqb, eqb-true, or_cases, cases_lt}
+use Rattle.std.proofs.lemmas.Bool.{le-leb, lt-ltb, ltb-true, ne_eqb, eq-eqb, or_cases}
 use Rattle.std.proofs.lemmas.List.{length-map, get_or-map}
 use Rattle.std.proofs.lemmas.List.Folds.{list_any-append}
 use Rattle.std.proofs.lemmas.List.Elements.{filter-append}
@@ -12,10 +12,10 @@ use Rattle.grid_types.specs.declared.owner.Owner.TheVariants.{Bucket, Part}
 use Rattle.grid_types.specs.Owners.{same_owner}
 use Rattle.grid_types.specs.Shapes.{word_pages}
 use Rattle.grid_types.proofs.Places.{within-limits}
-use Rattle.grid_model.specs.Lists.{below, is_among, AreDistinct, product}
-use Rattle.grid_model.specs.Scales.{scale_of, is_scale, intervals}
-use Rattle.grid_model.specs.Cells.{dims, cells, parts}
-use Rattle.grid_model.specs.Lawful.{nowhere, pages_named, cells_of_counts, Area, IsAreaOf, IsRootOn}
+use Rattle.grid_model.specs.Lists.{below, is_among, AreDistinct}
+use Rattle.grid_model.specs.Scales.{scale_of, is_scale}
+use Rattle.grid_model.specs.Cells.{cells, parts}
+use Rattle.grid_model.specs.Lawful.{nowhere, pages_named, cells_of_counts, IsAreaOf, IsRootOn}
 use Rattle.grid_model.proofs.Boundaries.{among-index}
 use Rattle.grid_model.proofs.Counts.{count, count-absent, count-filter, among-filter}
 use Rattle.page_states.specs.declared.page_state.PageState.{PageState}

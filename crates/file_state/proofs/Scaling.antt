@@ -1,7 +1,6 @@
 -- What a change does to the scales and to the directory parts, and that the scale of a fresh boundary takes it.
-use Rattle.std.proofs.Common.{◌≡◌, ◌⊎◌, inl, inr, ℕ, zero, suc, ◌+◌, ◌/◌, ◌<◌, ◌≤◌, List, [], ◌∷◌, ◌++◌, Bool, true, false, ◌||◌, cond, refl, sym, ◌∙◌, ap, subst, map, filter, replicate, length, get_or, arith, true≢false, IsTrue, eq-eqb}
-use Rattle.std.specs.Prelude.{◌==◌, not, nat_lt, slice_index, slice_set, slice_index_or, ⊤}
-use Rattle.std.specs.List.{list_any}
+use Rattle.std.proofs.Common.{◌≡◌, ◌⊎◌, inl, inr, ℕ, zero, suc, ◌+◌, ◌/◌, ◌<◌, ◌≤◌, List, [], ◌∷◌, Bool, true, false, ◌||◌, cond, refl, sym, ◌∙◌, ap, subst, filter, replicate, length, get_or, arith, true≢false, IsTrue, eq-eqb}
+use Rattle.std.specs.Prelude.{◌==◌, not, nat_lt, slice_set, slice_index_or}
 use Rattle.std.proofs.lemmas.Bool.{lt-ltb, ltb-true, or_cases}
 use Rattle.std.proofs.lemmas.List.{length-map, get_or-map, get_or-replicate, get_or-set_same}
 use Rattle.std.proofs.lemmas.List.Folds.{list_any-append}
@@ -10,16 +9,15 @@ use Rattle.grid_types.specs.declared.cell_box.CellBox.{CellBox}
 use Rattle.grid_types.specs.declared.layout_change.Cut.{Cut}
 use Rattle.grid_types.specs.declared.layout_change.LayoutChange.{LayoutChange}
 use Rattle.grid_types.specs.declared.layout_change.LayoutChange.TheVariants as note
-use Rattle.grid_model.specs.Lists.{below, is_among, product}
-use Rattle.grid_model.specs.Scales.{scale_of, is_scale, refined, refined_at}
-use Rattle.grid_model.specs.Cells.{dims, cells, parts}
-use Rattle.grid_model.specs.Notes.{scales_after}
+use Rattle.grid_model.specs.Lists.{is_among, product}
+use Rattle.grid_model.specs.Scales.{scale_of, is_scale, refined}
+use Rattle.grid_model.specs.Cells.{dims, parts}
 use Rattle.grid_model.proofs.Truths.{or-left, or-right}
 use Rattle.grid_model.proofs.Boundaries.{among-index}
 use Rattle.grid_model.proofs.ScaleLaws.{each-from, refined-longer}
 use Rattle.grid_model.proofs.Refining.{parts-grow}
 use Rattle.linear_scales.specs.Limited.{LimitedScale, scales_of, limits_of}
-use Rattle.linear_scales.specs.Refusals.{TakesBoundary, IsCause}
+use Rattle.linear_scales.specs.Refusals.{IsCause}
 use Rattle.linear_scales.specs.declared.refused.ScaleRefused.{ScaleRefused}
 use Rattle.linear_scales.specs.declared.refused.ScaleRefused.TheVariants.{Present, Limit}
 use Rattle.directory_changes.specs.Changes.{IsChangeOf, parts_after, parts_changed, grown}

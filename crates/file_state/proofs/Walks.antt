@@ -1,6 +1,6 @@
 -- New pages become current one after the other.
-use Rattle.std.proofs.Common.{◌≡◌, ℕ, zero, suc, ◌+◌, ◌-◌, ◌<◌, ◌≤◌, List, [], ◌∷◌, ◌++◌, Bool, true, false, cond, Some, None, append-nil, refl, sym, ◌∙◌, ap, subst, map, filter, length, take, drop, length-append, length-drop, take_all, arith}
-use Rattle.std.specs.Prelude.{◌≢◌, slice_get, slice_set, slice_index}
+use Rattle.std.proofs.Common.{◌≡◌, ℕ, suc, ◌+◌, ◌-◌, ◌<◌, ◌≤◌, List, [], ◌∷◌, ◌++◌, Bool, true, false, cond, None, append-nil, refl, sym, ◌∙◌, ap, subst, map, filter, length, take, drop, length-append, length-drop, take_all, arith}
+use Rattle.std.specs.Prelude.{◌≢◌, slice_index}
 use Rattle.std.proofs.lemmas.List.{length-map}
 use Rattle.grid_types.specs.declared.owner.Owner.{Owner}
 use Rattle.grid_types.specs.declared.owner.Owner.TheVariants.{Bucket, Part}
