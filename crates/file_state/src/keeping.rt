@@ -45,7 +45,8 @@ pub(crate) fn give_back<const K: usize>(memory: &mut Memory<K>, seat: u32)
 /// One more slot of the current half is used.
 pub(crate) fn commit_slot<const K: usize>(memory: &mut Memory<K>)
     requires memory { IsMemory memory.old }
-    requires free { used_of (books_of memory.old) (books_of memory.old).half < memory.old.geometry.shape.slots }
+    requires free { used_of (books_of memory.old) (books_of memory.old).half
+        < memory.old.geometry.shape.slots }
     ensures memory { IsMemory memory.new }
     ensures books { books_of memory.new ≡ committed_books (books_of memory.old) }
 {

@@ -108,7 +108,8 @@ pub(crate) fn open<const K: usize>(
     requires second { slice_index used 1 ≤ geometry.shape.slots }
     ensures memory { IfOk result (λ m. IsMemory m) }
     ensures books { IfOk result (λ m. books_of m
-        ≡ opened_books geometry.shape (whole_of root.now) (slice_index used 0) (slice_index used 1)) }
+        ≡ opened_books geometry.shape (whole_of root.now)
+        (slice_index used 0) (slice_index used 1)) }
 {
     let shape = geometry.shape;
     let pages = open_pages(alloc, &geometry, root)?;

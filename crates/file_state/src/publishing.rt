@@ -32,7 +32,8 @@ fn publish_buckets(
     requires known { AreNumbersBelow (length states.old) (buckets_renewed bucket note) }
     ensures count { result ≡ length (buckets_renewed bucket note) }
     ensures states { states.new
-        ≡ all_published at (publications (map Bucket (buckets_renewed bucket note)) pages.now) states.old }
+        ≡ all_published at (publications (map Bucket (buckets_renewed bucket note)) pages.now)
+        states.old }
 {
     match note {
         LayoutChange::Plain => {
@@ -64,7 +65,9 @@ fn publish_parts<const K: usize>(
     requires count { length pages.now ≡ length (parts_changed dims.now.intervals directory.now) }
     requires known { parts_after dims.now.intervals directory.now ≤ length states.old }
     ensures { states.new
-        ≡ all_published at (publications (map Part (parts_changed dims.now.intervals directory.now)) pages.now) states.old }
+        ≡ all_published at
+        (publications (map Part (parts_changed dims.now.intervals directory.now)) pages.now)
+        states.old }
 {
     if pages.is_empty() {
         return;
@@ -103,8 +106,10 @@ fn publish_pages<const K: usize>(
     requires claimed { ArePublishable pages.now states.old }
     requires count { length pages.now ≡ length (owners_renewed change.now.bucket change.now.note
         (parts_changed dims.now.intervals change.now.directory)) }
-    requires buckets { AreNumbersBelow (length states.old) (buckets_renewed change.now.bucket change.now.note) }
-    requires vanishing { AreNumbersBelow (length states.old) (buckets_vanishing change.now.bucket change.now.note) }
+    requires buckets { AreNumbersBelow (length states.old)
+        (buckets_renewed change.now.bucket change.now.note) }
+    requires vanishing { AreNumbersBelow (length states.old)
+        (buckets_vanishing change.now.bucket change.now.note) }
     requires parts { parts_after dims.now.intervals change.now.directory ≤ length states.old }
     ensures { states.new ≡ published_states at change.now.bucket change.now.note
         (parts_changed dims.now.intervals change.now.directory) pages.now states.old }

@@ -55,7 +55,8 @@ impl<const K: usize> FileState<K> {
         requires first { slice_index used 0 ≤ geometry.shape.slots }
         requires second { slice_index used 1 ≤ geometry.shape.slots }
         ensures { IfOk result (λ s. s
-            ≡ opened_books geometry.shape (whole_of root.now) (slice_index used 0) (slice_index used 1)) }
+            ≡ opened_books geometry.shape (whole_of root.now)
+            (slice_index used 0) (slice_index used 1)) }
     {
         Ok(FileState {
             memory: opening::open(alloc, geometry, root, used)?,
