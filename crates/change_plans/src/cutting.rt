@@ -12,7 +12,9 @@ ghost use Rattle.linear_scales.specs.Limited.{scales_of};
 ghost use Rattle.split_policy.specs.Rows.{keys_of, LieIn};
 ghost use Rattle.bucket_page.specs.Buckets.{bucket_of};
 ghost use Rattle.bucket_page.specs.Changing.{left_bucket, right_bucket};
+ghost use Rattle.bucket_page.specs.OnPage.{head_told};
 ghost use Rattle.change_plans.specs.Plans.{OfOverfull, IsCutDue, CutsByLayout, IsCutPut};
+ghost use Rattle.change_plans.specs.Cutting.{IsCutWithin};
 
 use bucket_page::{Bucket, decode, encode};
 use grid_types::{Cut, MOST_ATTRIBUTES, MOST_RECORDS, PAGE_BYTES, Record, Shape};
@@ -31,6 +33,7 @@ fn overfull<const K: usize>(
         (λ b. MatchOption result ⊥ (λ o. bucket_of o ≡ b)) }
     ensures inside { IfSome result (λ o. LieIn o.region o.rows.items) }
     ensures lawful { IfSome result (λ o. IsBucket (capacity + 1) (bucket_of o)) }
+    ensures region { IfSome result (λ o. o.region ≡ (head_told K from.now).region) }
 {
     let Some(mut bucket) = decode::<K>(from, capacity) else {
         return None;
@@ -80,6 +83,9 @@ pub fn cut_of<const K: usize, R: CutRule<K>>(
 ) -> Option<Cut>
     requires few { K ≤ MOST_ATTRIBUTES }
     requires lawful { shape.now.capacity ≤ MOST_RECORDS }
+    ensures attribute { IfSome result (λ c. c.attribute < K) }
+    ensures lawful { IfSome result
+        (IsCutWithin shape.now (scales_of scales.now) (head_told K from.now).region) }
     ensures value { OfOverfull shape.now.capacity from.now row.now
         (λ b. result ≡ R.chosen rule.now shape.now (scales_of scales.now) b.box (keys_of b.rows)) }
     ensures left { OfOverfull shape.now.capacity from.now row.now

@@ -1,7 +1,9 @@
-use Rattle.std.proofs.Common.{Some, None, subst}
+use Rattle.std.proofs.Common.{Some, None, sym, subst, IsTrue}
+use Rattle.grid_types.specs.Regions.{is_within}
 use Rattle.grid_model.specs.Buckets.{SpellsBucket}
 use Rattle.grid_model.specs.Images.{bucket_on}
 use Rattle.linear_scales.specs.Limited.{scales_of}
+use Rattle.split_policy.specs.Rows.{LieIn}
 use Rattle.bucket_page.specs.Buckets.{bucket_of}
 use Rattle.bucket_page.specs.Changing.{left_bucket, right_bucket}
 use Rattle.change_plans.proofs.CutPages.{rule-on, noted-so, cut-pages}
@@ -44,3 +46,14 @@ returns-clause-pages g c = λ L t e n due by.
     cut-pages shape L t r e from n due (g.R.CutRule.chosen c.args.rule.now) (scales_of c.args.scales.now) c.args.unused by cut shape.capacity c.write_parts.new.left c.write_parts.new.right (returns-clause-noted g c L t e n due by)
     (subst (λ b. SpellsBucket shape.capacity c.write_parts.new.left (left_bucket b cut)) there c.write_parts.ensures.left)
     (subst (λ b. SpellsBucket shape.capacity c.write_parts.new.right (right_bucket b cut c.args.unused)) there c.write_parts.ensures.right)
+
+pub returns-clause-lawful : goal.returns-clause-lawful
+returns-clause-lawful g c =
+    let cut = c.in-Some-cut.cut in
+    let e = c.in-Some-cut.ensures in
+    let lie = subst (LieIn c.in-Some.bucket.region) (sym c.as_slice-rows.ensures.value) c.in-Some.ensures.inside in
+    record {
+      within = subst (λ r. IsTrue (is_within r cut.attribute cut.value)) c.in-Some.ensures.region (e.within lie);
+      fresh = e.fresh lie;
+      grows = e.limits;
+    }

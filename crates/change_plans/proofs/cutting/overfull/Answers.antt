@@ -3,6 +3,7 @@ use Rattle.grid_types.specs.Regions.{contains}
 use Rattle.bucket_page.specs.Buckets.{bucket_of}
 use Rattle.bucket_page.specs.Putting.{with_record}
 use Rattle.bucket_page.proofs.Growing.{one-more}
+use Rattle.bucket_page.proofs.OnPage.{told}
 use Rattle.change_plans.proofs.InMemory.{in_memory, put-in-memory}
 use Rattle.change_plans.proofs.Overfull.{roomier}
 use Rattle.change_plans.proofs.cutting.overfull.Goals as goal
@@ -27,3 +28,6 @@ returns-clause-lawful g c =
     let found = c.in-Some.ensures.found in
     let longer = one-more _ (length c.insert.new.self.rows.items) (length c.in-Some.bucket.rows.items) c.insert.ensures.len in
     c.insert.ensures.lawful (c.args.capacity + 1) (roomier c.args.capacity (c.args.capacity + 1) (bucket_of c.in-Some.bucket) found.lawful (omega arith)) (omega (arith, longer, found.lawful.count)) (c.contains.ensures.within.0 c.if-not-contains.false)
+
+pub returns-clause-region : goal.returns-clause-region
+returns-clause-region g c = c.insert.ensures.region ∙ ap (λ b. b.box.region) (told g.row.K c.args.capacity c.args.from.now (bucket_of c.in-Some.bucket) c.requires.few c.requires.lawful c.fits-from c.in-Some.ensures.found)
