@@ -1,0 +1,4 @@
+pub mod Heads
+pub mod Scales
+pub mod Removals
+pub mod Merges

@@ -1,0 +1,11 @@
+//! What a put or a remove does, decided as one value before any page is claimed.
+#![tactic(auto)]
+
+mod merging;
+mod pages;
+mod plan;
+mod removing;
+
+pub use merging::plan_merge;
+pub use plan::Plan;
+pub use removing::plan_removal;
