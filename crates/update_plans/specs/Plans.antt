@@ -1,5 +1,5 @@
 -- What a plan says of an update over a layout and a table, and what holds of it whatever the pages say.
-use Rattle.std.specs.Prelude.{◌≡◌, ◌+◌, ℕ, List, [], ◌∷◌, length, map, min, Option, Some, None, IsTrue, ⊤}
+use Rattle.std.specs.Prelude.{◌≡◌, ◌+◌, ℕ, List, [], ◌∷◌, length, map, min, Option, Some, None}
 use Rattle.grid_types.specs.declared.layout_change.LayoutChange.{LayoutChange}
 use Rattle.grid_types.specs.declared.layout_change.LayoutChange.TheVariants as note
 use Rattle.grid_types.specs.declared.owner.Owner.{Owner}

@@ -9,3 +9,6 @@ mod removing;
 pub use merging::plan_merge;
 pub use plan::Plan;
 pub use removing::plan_removal;
+
+#[cfg(test)]
+mod tests;
