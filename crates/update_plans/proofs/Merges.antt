@@ -1,5 +1,5 @@
 -- The plan of a removal that joins two buckets.
-use Rattle.std.proofs.Common.{◌≡◌, ◌<◌, ◌≤◌, ◌+◌, ℕ, Bool, true, false, cond, List, [], ◌∷◌, map, length, min, max, nat_lt, Some, refl, sym, ap, subst, ◌∙◌, arith, ltb-true}
+use Rattle.std.proofs.Common.{◌≡◌, ◌+◌, ℕ, Bool, true, false, cond, List, [], ◌∷◌, length, min, max, nat_lt, Some, refl, sym, ap, subst, ◌∙◌, arith, ltb-true}
 use Rattle.std.proofs.lemmas.Bool.{ltb-false}
 use Rattle.std.proofs.lemmas.List.{length-map}
 use Rattle.std.specs.Option.{unwrap_or}
@@ -16,7 +16,6 @@ use Rattle.grid_model.specs.Tables.{Table, get}
 use Rattle.history_pages.specs.PageLaws.{IsChange, page_after}
 use Rattle.directory_changes.specs.Changes.{directory_change, parts_changed, IsChangeOf}
 use Rattle.directory_changes.specs.declared.change.DirectoryChange.{DirectoryChange}
-use Rattle.directory_changes.specs.declared.change.DirectoryChange.TheVariants.{Patch}
 use Rattle.directory_changes.proofs.Renewed.{same-parts}
 use Rattle.change_plans.specs.Plans.{IsMergeRemove}
 use Rattle.file_books.specs.Books.{AreScalesOf}

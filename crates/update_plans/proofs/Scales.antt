@@ -1,5 +1,5 @@
 -- The scales of a file make a directory of at most a million cells.
-use Rattle.std.proofs.Common.{◌≡◌, ◌<◌, ◌≤◌, ℕ, List, [], length, slice_index, arith, IsTrue}
+use Rattle.std.proofs.Common.{ℕ, List, [], arith, IsTrue}
 use Rattle.std.proofs.lemmas.List.{length-map, get_or-map}
 use Rattle.grid_types.specs.declared.shape.Shape.{Shape}
 use Rattle.grid_types.specs.Shapes.{is_shape}

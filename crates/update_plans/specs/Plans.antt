@@ -10,7 +10,7 @@ use Rattle.grid_types.specs.declared.update.Update.TheVariants.{Put, Remove}
 use Rattle.grid_model.specs.Cells.{dims}
 use Rattle.grid_model.specs.Layouts.{BucketBox, Layout}
 use Rattle.grid_model.specs.Lone.{renewed, how_many, need, spare}
-use Rattle.grid_model.specs.Notes.{updated_key, scales_after}
+use Rattle.grid_model.specs.Notes.{updated_key}
 use Rattle.grid_model.specs.Tables.{Table, get}
 use Rattle.history_pages.specs.NewPages.{new_page}
 use Rattle.history_pages.specs.PageLaws.{IsChange}

@@ -1,10 +1,8 @@
-use Rattle.std.proofs.Common.{rules, ◌≡◌, ◌≤◌, ◌&&◌, Some, cond, nat_lt, is_some, refl, sym, ap, ◌∙◌, arith}
-use Rattle.std.specs.Option.{unwrap_or}
+use Rattle.std.proofs.Common.{rules, ◌≡◌, ◌&&◌, Some, cond, nat_lt, is_some, refl, sym, ap, ◌∙◌, arith}
 use Rattle.grid_types.specs.declared.layout_change.LayoutChange.TheVariants as note
 use Rattle.grid_model.specs.Images.{bucket_on}
-use Rattle.grid_model.specs.Layouts.{BucketBox, Layout, box}
 use Rattle.grid_model.specs.Neighbours.{can_join}
-use Rattle.grid_model.specs.Tables.{Table, get, without}
+use Rattle.grid_model.specs.Tables.{get, without}
 use Rattle.linear_scales.specs.Limited.{scales_of}
 use Rattle.change_plans.proofs.Buckets.{held}
 use Rattle.change_plans.proofs.Pages.{tells-data}

@@ -1,4 +1,4 @@
-use Rattle.std.proofs.Common.{sym, ap, ◌∙◌, is_some}
+use Rattle.std.proofs.Common.{ap, is_some}
 use Rattle.grid_model.specs.Images.{bucket_on}
 use Rattle.update_plans.proofs.Heads.{spelled-widely, at-head, head-number}
 use Rattle.update_plans.proofs.Removals.{removal-plan, removal-sound}
