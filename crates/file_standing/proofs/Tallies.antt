@@ -23,7 +23,8 @@ use Rattle.history_pages.specs.PageLaws.{IsChange}
 use Rattle.history_pages.proofs.Changes.{box-there}
 use Rattle.history_pages.proofs.Cutting.{CutsBox, lawful-cut, scales-of-split}
 use Rattle.history_pages.proofs.Joining.{JoinsBox, lawful-join, after-join}
-use Rattle.file_books.specs.Effects.{More, Same, records_after, buckets_after, scales_after_change}
+use Rattle.file_books.specs.declared.record_change.RecordChange.TheVariants.{More, Same}
+use Rattle.file_books.specs.Effects.{records_after, buckets_after, scales_after_change}
 use Rattle.file_standing.specs.Steps.{record_change}
 
 -- a layout has no more records than its buckets hold
