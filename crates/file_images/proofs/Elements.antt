@@ -1,6 +1,6 @@
 -- The elements of lists that are made of others.
-use Rattle.std.proofs.Common.{◌≡◌, ◌<◌, ◌≤◌, ◌⊎◌, inl, inr, ◌+◌, ℕ, zero, suc, Bool, true, false, cond, List, [], ◌∷◌, ◌++◌, map, refl, sym, ap, subst, ◌∙◌, arith, true≢false}
-use Rattle.std.specs.Prelude.{slice_get, Some, None, filter}
+use Rattle.std.proofs.Common.{◌≡◌, ◌<◌, ◌≤◌, ◌⊎◌, inl, inr, ◌+◌, ℕ, zero, suc, Bool, true, false, cond, ◌&&◌, List, [], ◌∷◌, ◌++◌, map, refl, sym, ap, subst, ◌∙◌, arith}
+use Rattle.std.specs.Prelude.{slice_get, Option, Some, None, filter, option_map}
 use Rattle.std.specs.List.{range_with_len, find}
 use Rattle.std.proofs.lemmas.Option.{same_Some}
 use Rattle.std.specs.Prelude.{Contains}
@@ -86,18 +86,23 @@ module _ {X : Type 0} (test : X → Bool) where
   among_filter y (x ∷ xs) here is = among_first (test y) y (filter test xs) is
   among_filter y (x ∷ xs) (there m) is = among_cond (test x) x y (filter test xs) (among_filter y xs m is)
 
-  -- the first that passes is the only one that may
-  pub found_one : (xs : List X) (x : X) → Among x xs → test x ≡ true → ((y : X) → Among y xs → test y ≡ true → y ≡ x) → find test xs ≡ Some x
-  found_one [] x m is only = elim m [ ]
-  found_one (z ∷ xs) x m is only = by (test z) refl m (λ n. found_one xs x n is (λ y o. only y (there o)))
-    where
-      by : (b : Bool) → test z ≡ b → Among x (z ∷ xs) → (Among x xs → find test xs ≡ Some x) → cond b (Some z) (find test xs) ≡ Some x
-      by true p m rest = ap Some (only z here p)
-      by false p m rest = elim (first_or z x xs m) [ inl e ↦ absurd (true≢false (sym is ∙ ap test e ∙ p)) | inr n ↦ rest n ]
-
   pub found_none : (xs : List X) → ((y : X) → Among y xs → test y ≡ false) → find test xs ≡ None
   found_none [] no_one = refl
   found_none (x ∷ xs) no_one = ap (λ b. cond b (Some x) (find test xs)) (no_one x here) ∙ found_none xs (λ y m. no_one y (there m))
+
+-- what is found among the images of elements is the image of the one that is found
+pub find_through : {S X : Type 0} (f : S → X) (keep test : X → Bool) (xs : List S) → find test (filter keep (map f xs)) ≡ option_map f (find (λ s. keep (f s) && test (f s)) xs)
+find_through f keep test [] = refl
+find_through {S} {X} f keep test (x ∷ xs) = by (keep (f x)) (find_through f keep test xs)
+  where
+    kept : (b : Bool) (r : Option X) (t : Option S) → r ≡ option_map f t → cond b (Some (f x)) r ≡ option_map f (cond b (Some x) t)
+    kept true r t same = refl
+    kept false r t same = same
+
+    by : (a : Bool) → find test (filter keep (map f xs)) ≡ option_map f (find (λ s. keep (f s) && test (f s)) xs)
+        → find test (cond a (f x ∷ filter keep (map f xs)) (filter keep (map f xs))) ≡ option_map f (cond (a && test (f x)) (Some x) (find (λ s. keep (f s) && test (f s)) xs))
+    by true same = kept (test (f x)) (find test (filter keep (map f xs))) (find (λ s. keep (f s) && test (f s)) xs) same
+    by false same = same
 
 pub among_range : (i a n : ℕ) → a ≤ i → i < a + n → Among i (range_with_len a n)
 among_range i a zero low high = absurd (omega (arith, low, high))

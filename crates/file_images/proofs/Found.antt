@@ -1,24 +1,26 @@
 -- What is found in an image that shows what a file keeps, with nothing on the next slot: the gates, and the batches.
-use Rattle.std.proofs.Common.{◌≡◌, ◌<◌, ◌≤◌, ◌⊎◌, inl, inr, ◌+◌, ℕ, zero, suc, List, [], length, map, slice_index, get_or, sym, ap, subst, ◌∙◌, arith, eqb-true, eq-eqb}
-use Rattle.std.specs.Prelude.{slice_get, Some, filter, All, Contains, ◌==◌, option_map}
-use Rattle.std.proofs.lemmas.Bool.{cases_eq}
+use Rattle.std.proofs.Common.{◌≡◌, ◌<◌, ◌≤◌, ◌⊎◌, inl, inr, ◌+◌, ℕ, zero, suc, Bool, true, false, ◌&&◌, List, [], length, map, slice_index, get_or, sym, ap, subst, ◌∙◌, arith, eqb-true, eq-eqb, true≢false}
+use Rattle.std.specs.Prelude.{slice_get, Some, None, filter, All, Contains, ◌==◌, option_map}
+use Rattle.std.proofs.lemmas.Bool.{cases_eq, false_from_ne_true}
 use Rattle.std.proofs.lemmas.Option.{slice_get-map, slice_get_within, slice_get-get_or, get_or_from_slice_get, same_Some}
 use Rattle.std.proofs.lemmas.List.{length-map}
 use Rattle.grid_types.specs.declared.shape.Shape.{Shape}
 use Rattle.grid_types.specs.Pages.{page_of}
 use Rattle.grid_types.specs.Shapes.{slot_page}
+use Rattle.grid_types.proofs.Numbers.{both, first, second}
 use Rattle.grid_model.specs.Lists.{below}
 use Rattle.grid_model.specs.Spellings.{LoggedBatch}
-use Rattle.grid_model.specs.Images.{Gates, HasGates, HasGatesOf, HasBatches, SpellsBatch, open_slots, open_slots_of, written_slots, last_gate, of_session, Join}
+use Rattle.grid_model.specs.Images.{Gates, HasGates, HasGatesOf, HasBatches, SpellsBatch, open_slots, open_slots_of, written_slots, last_gate, of_session, joining, Join}
 use Rattle.journal_slots.proofs.Frames.{gate_is_byte}
 use Rattle.journal_slots.proofs.LastGates.{last_gate_before}
 use Rattle.file_images.specs.Kept.{GateRule, Counting, Either, PlacedBatch, NextSlot, Shut, Kept, on_half, used}
 use Rattle.file_images.specs.Shows.{gate_in, Obeys, ShowsPlaced, ShowsNext, Shows}
-use Rattle.file_images.specs.Leads.{Chain, IsKnown, CountsOn}
+use Rattle.file_images.specs.Leads.{Chain, IsPassed, IsKnown, CountsOn}
 use Rattle.file_images.proofs.PagesApart.{few}
-use Rattle.file_images.proofs.Elements.{Among, among_at, among_map, from_map, among_left, among_right, from_append, among_filter, from_filter, among_range, from_range, among_these, contains_it}
+use Rattle.file_images.proofs.Elements.{Among, among_at, among_map, from_map, among_left, among_right, from_append, among_filter, from_filter, find_through, found_none, among_range, from_range, among_these, contains_it}
+use Rattle.file_images.proofs.Earlier.{IsFirst, open_ascend, first_found}
 use Rattle.file_images.proofs.Frames.{used_few}
-use Rattle.file_images.proofs.Chains.{joined}
+use Rattle.file_images.proofs.Chains.{chain_above, chain_up, chain_below, chain_once, joined}
 
 -- what stands on no slot
 abbrev nothing : {K : ℕ} → LoggedBatch K
@@ -142,39 +144,89 @@ module _ {K : ℕ} (k : Kept K) (image : List ℕ) (was : Shows k image) (shut :
       let u = written_used x.0 x.1 in
       subst P (sym x.2) (each x.0.0 x.0.1 (get_or (on_half k x.0.0) x.0.1 default) u.0 (placed_is x.0.0 x.0.1 u.1))
 
+  -- a batch that counts is on an open slot
+  counts_open : (b : LoggedBatch K) (on : CountsOn k b) → Among (on.half, on.slot) (open_slots gates) × (batch_at k (on.half, on.slot) ≡ b)
+  counts_open b on =
+      let p : PlacedBatch K = record { batch = b; gate = Counting } in
+      let shown : ShowsPlaced s on.half on.slot p image = was.slots on.half on.slot p on.two on.there in
+      (used_open on.half on.slot on.two (slice_get_within (on_half k on.half) on.slot p on.there) shown.gate, ap (λ (x : PlacedBatch K). x.batch) (get_or_from_slice_get (on_half k on.half) on.slot p default on.there))
+
   module _ (session from front : ℕ) (taken : List (LoggedBatch K)) (chain : Chain from taken front) (there_all : (b : LoggedBatch K) → Contains taken b → (b.session ≡ session) × CountsOn k b)
-      (known : (h i : ℕ) (p : PlacedBatch K) → h < 2 → slice_get (on_half k h) i ≡ Some p → p.batch.session ≡ session → IsKnown from taken front p) where
+      (known : (h i : ℕ) (p : PlacedBatch K) → h < 2 → slice_get (on_half k h) i ≡ Some p → p.batch.session ≡ session → IsKnown k from taken front front h i p) where
     abbrev opened : List (LoggedBatch K)
     opened = map (batch_at k) (open_slots gates)
 
-    taken_open : (b : LoggedBatch K) → Contains taken b → Among b (of_session session opened)
-    taken_open b m =
-        let on = there_all b m in
-        let c = on.1 in
-        let p : PlacedBatch K = record { batch = b; gate = Counting } in
-        let shown : ShowsPlaced s c.half c.slot p image = was.slots c.half c.slot p c.two c.there in
-        let lt : c.slot < used k c.half = slice_get_within (on_half k c.half) c.slot p c.there in
-        let same : batch_at k (c.half, c.slot) ≡ b = ap (λ (x : PlacedBatch K). x.batch) (get_or_from_slice_get (on_half k c.half) c.slot p default c.there) in
-        let mine : Among (batch_at k (c.half, c.slot)) opened = among_map (batch_at k) (c.half, c.slot) (open_slots gates) (used_open c.half c.slot c.two lt shown.gate) in
-        among_filter (λ x. x.session == session) b opened (subst (λ (x : LoggedBatch K). Among x opened) same mine) (eq-eqb b.session session on.0)
+    -- the batch on a slot is of the session, and joins a place
+    abbrev joins_at : ℕ → ℕ × ℕ → Bool
+    joins_at place slot = ((batch_at k slot).session == session) && ((batch_at k slot).first == place + 1)
 
-    open_known : (b : LoggedBatch K) → Among b (of_session session opened) → (b.first ≤ from) ⊎ (Among b taken ⊎ (front + 1 < b.first))
-    open_known b m =
-        let passed = from_filter (λ x. x.session == session) opened b m in
-        let x = from_map (batch_at k) (open_slots gates) b passed.0 in
-        let u = open_used x.0 x.1 in
-        let p = get_or (on_half k x.0.0) x.0.1 default in
-        let at = placed_is x.0.0 x.0.1 u.1 in
-        let mine : p.batch.session ≡ session = ap (λ (y : LoggedBatch K). y.session) (sym x.2) ∙ eqb-true b.session session passed.1 in
-        let gate = (was.slots x.0.0 x.0.1 p u.0 at).gate in
-        let how : IsKnown from taken front p = known x.0.0 x.0.1 p u.0 at mine in
-        subst (λ (y : LoggedBatch K). (y.first ≤ from) ⊎ (Among y taken ⊎ (front + 1 < y.first))) (sym x.2) (elim how [
-          | inl barred ↦ absurd (subst (λ (r : GateRule). Obeys r (gate_in s x.0.0 x.0.1 image)) barred gate u.2)
-          | inr rest ↦ elim rest [
-            | inl low ↦ inl low
-            | inr more ↦ elim more [ inl m ↦ inr (inl (among_these p.batch taken m)) | inr far ↦ inr (inr far) ]
-          ]
-        ])
+    joins_there : (place : ℕ) (slot : ℕ × ℕ) (c : LoggedBatch K) → batch_at k slot ≡ c → c.session ≡ session → c.first ≡ place + 1 → joins_at place slot ≡ true
+    joins_there place slot c is mine begins =
+        both ((batch_at k slot).session == session) ((batch_at k slot).first == place + 1)
+        (eq-eqb (batch_at k slot).session session (ap (λ (b : LoggedBatch K). b.session) is ∙ mine)) (eq-eqb (batch_at k slot).first (place + 1) (ap (λ (b : LoggedBatch K). b.first) is ∙ begins))
+
+    of_the_session : (place : ℕ) (slot : ℕ × ℕ) → joins_at place slot ≡ true → (batch_at k slot).session ≡ session
+    of_the_session place slot is = eqb-true (batch_at k slot).session session (first ((batch_at k slot).session == session) ((batch_at k slot).first == place + 1) is)
+
+    begins_there : (place : ℕ) (slot : ℕ × ℕ) → joins_at place slot ≡ true → (batch_at k slot).first ≡ place + 1
+    begins_there place slot is = eqb-true (batch_at k slot).first (place + 1) (second ((batch_at k slot).session == session) ((batch_at k slot).first == place + 1) is)
+
+    -- a batch under an open gate is not barred, so that the root has its updates, or it is taken, or passed over, or it begins beyond the end
+    abbrev IsOpenKnown : ℕ × ℕ → Type 0
+    IsOpenKnown slot =
+        ((batch_at k slot).first ≤ from) ⊎ (Contains taken (batch_at k slot) ⊎ (IsPassed k taken front slot.0 slot.1 (get_or (on_half k slot.0) slot.1 default) ⊎ (front + 1 < (batch_at k slot).first)))
+
+    open_known : (slot : ℕ × ℕ) → Among slot (open_slots gates) → (batch_at k slot).session ≡ session → IsOpenKnown slot
+    open_known slot m mine =
+        let u = open_used slot m in
+        let p = get_or (on_half k slot.0) slot.1 default in
+        let at = placed_is slot.0 slot.1 u.1 in
+        elim (known slot.0 slot.1 p u.0 at mine) [
+          | inl barred ↦ absurd (subst (λ (r : GateRule). Obeys r (gate_in s slot.0 slot.1 image)) barred (was.slots slot.0 slot.1 p u.0 at).gate u.2)
+          | inr rest ↦ rest
+        ]
+
+    -- of the slots on which a batch joins a place where a taken one does, that one is on the first
+    taken_first : (place : ℕ) (c : LoggedBatch K) (slot : ℕ × ℕ) → Contains taken c → c.first ≡ place + 1 → IsFirst (joins_at place) (open_slots gates) slot → batch_at k slot ≡ c
+    taken_first place c slot on begins is = by (open_known slot is.among (of_the_session place slot is.passes))
+      where
+        same : (batch_at k slot).first ≡ c.first
+        same = begins_there place slot is.passes ∙ sym begins
+
+        by : IsOpenKnown slot → batch_at k slot ≡ c
+        by (inl low) = absurd (omega (arith, low, same, chain_above from front taken c chain (among_these c taken on)))
+        by (inr (inl mine)) = chain_once from front taken (batch_at k slot) c chain (among_these (batch_at k slot) taken mine) (among_these c taken on) same
+        by (inr (inr (inl passed))) =
+            let earlier = passed.later c on (sym same) in
+            let there = counts_open c earlier.on in
+            let none : joins_at place (earlier.on.half, earlier.on.slot) ≡ false = is.first (earlier.on.half, earlier.on.slot) there.0 earlier.before in
+            absurd (true≢false (sym (joins_there place (earlier.on.half, earlier.on.slot) c there.1 (there_all c on).0 begins) ∙ none))
+        by (inr (inr (inr far))) = absurd (omega (arith, far, same, chain_below from front taken c chain (among_these c taken on)))
+
+    taken_joins : (place : ℕ) (c : LoggedBatch K) → Contains taken c → c.first ≡ place + 1 → joining (of_session session opened) place ≡ Some c
+    taken_joins place c on begins =
+        let at = there_all c on in
+        let open_there = counts_open c at.1 in
+        let it = first_found (joins_at place) (open_slots gates) (at.1.half, at.1.slot) (open_ascend gates) open_there.0 (joins_there place (at.1.half, at.1.slot) c open_there.1 at.0 begins) in
+        find_through (batch_at k) (λ b. b.session == session) (λ b. b.first == place + 1) (open_slots gates) ∙ ap (option_map (batch_at k)) it.1.found ∙ ap Some (taken_first place c it.0 on begins it.1)
+
+    -- no batch joins the end
+    none_there : (slot : ℕ × ℕ) → Among slot (open_slots gates) → joins_at front slot ≡ true → ⊥
+    none_there slot m is = by (open_known slot m (of_the_session front slot is))
+      where
+        first_is : (batch_at k slot).first ≡ front + 1
+        first_is = begins_there front slot is
+
+        by : IsOpenKnown slot → ⊥
+        by (inl low) = omega (arith, low, first_is, chain_up from front taken chain)
+        by (inr (inl mine)) = omega (arith, first_is, chain_below from front taken (batch_at k slot) chain (among_these (batch_at k slot) taken mine))
+        by (inr (inr (inl passed))) = omega (arith, first_is, passed.behind)
+        by (inr (inr (inr far))) = omega (arith, first_is, far)
+
+    none_joins : joining (of_session session opened) front ≡ None
+    none_joins =
+        find_through (batch_at k) (λ b. b.session == session) (λ b. b.first == front + 1) (open_slots gates)
+        ∙ ap (option_map (batch_at k)) (found_none (joins_at front) (open_slots gates) (λ slot m. false_from_ne_true (joins_at front slot) (none_there slot m)))
 
     pub joins : Join (of_session session opened) from taken front
-    joins = joined (of_session session opened) front from taken chain (λ b m. taken_open b (contains_it b taken m)) open_known
+    joins = joined (of_session session opened) front from taken chain (λ place b m begins. taken_joins place b (contains_it b taken m) begins) none_joins

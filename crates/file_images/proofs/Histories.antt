@@ -1,6 +1,6 @@
 -- What each step of the journal, and each root, leaves of where what is kept leads.
-use Rattle.std.proofs.Common.{◌≡◌, ◌<◌, ◌≤◌, inl, inr, ◌+◌, ◌++◌, ℕ, Bool, true, false, List, [], ◌∷◌, length, refl, sym, ap, subst, ◌∙◌, arith, true≢false}
-use Rattle.std.specs.Prelude.{slice_get, Some, fold, Contains}
+use Rattle.std.proofs.Common.{◌≡◌, ◌<◌, ◌≤◌, ◌⊎◌, inl, inr, ◌+◌, ◌++◌, ℕ, Bool, true, false, List, [], ◌∷◌, length, refl, sym, ap, subst, ◌∙◌, arith, true≢false}
+use Rattle.std.specs.Prelude.{slice_get, Option, Some, fold, Contains}
 use Rattle.std.proofs.lemmas.List.{append-nil}
 use Rattle.std.proofs.lemmas.List.Sums.{fold-append}
 use Rattle.std.proofs.lemmas.Grind.{flat_map-append}
@@ -12,7 +12,7 @@ use Rattle.grid_model.specs.Images.{logged_effect, layout_after}
 use Rattle.grid_model.specs.Roots.{WholeRoot}
 use Rattle.file_images.specs.Kept.{GateRule, Counting, Barred, PlacedBatch, NextSlot, Shut, Flying, InDoubt, Kept, OtherHeader, on_half, used}
 use Rattle.file_images.specs.Steps.{ruled, with_placed, with_next_shut, with_flying}
-use Rattle.file_images.specs.Leads.{Standing, behind, updates_in, RootHolds, CountsOn, reach, IsKnown, Lineage, and_then, MayFollow, LeadsAlong}
+use Rattle.file_images.specs.Leads.{Standing, behind, updates_in, RootHolds, CountsOn, reach, CountsBefore, IsPassed, IsKnown, Lineage, and_then, MayFollow, LeadsAlong}
 use Rattle.file_images.proofs.Halves.{old_or_new, still_there, placed_there}
 use Rattle.file_images.proofs.Elements.{Among, here, there, among_left, among_right, from_append, among_these, contains_it}
 use Rattle.file_images.proofs.Chains.{chain_more}
@@ -40,11 +40,31 @@ reach_up Shut place = omega arith
 reach_up Flying place = omega arith
 reach_up (InDoubt b) place = omega arith
 
-known_nearer : {K : ℕ} (from : ℕ) (taken more : List (LoggedBatch K)) (far near : ℕ) (p : PlacedBatch K) → near ≤ far → ((b : LoggedBatch K) → Contains taken b → Contains more b) → IsKnown from taken far p → IsKnown from more near p
-known_nearer from taken more far near p le wider (inl barred) = inl barred
-known_nearer from taken more far near p le wider (inr (inl low)) = inr (inl low)
-known_nearer from taken more far near p le wider (inr (inr (inl m))) = inr (inr (inl (wider p.batch m)))
-known_nearer from taken more far near p le wider (inr (inr (inr beyond))) = inr (inr (inr (omega (arith, beyond, le))))
+-- a batch that is passed over stays so, where each taken one that counts before it goes on doing so, and those that are taken up to the place are among those of before
+pub passed_still : {K : ℕ} (k now : Kept K) (taken more : List (LoggedBatch K)) (place onward h i : ℕ) (p : PlacedBatch K) → place ≤ onward
+    → ((b : LoggedBatch K) → Contains more b → b.first ≤ place → Contains taken b) → ((b : LoggedBatch K) → Contains taken b → CountsBefore k b h i → CountsBefore now b h i)
+    → IsPassed k taken place h i p → IsPassed now more onward h i p
+passed_still k now taken more place onward h i p le back counts is = record {
+  behind = omega (arith, is.behind, le);
+  later = λ b on same. let old = back b on (omega (arith, same, is.behind)) in counts b old (is.later b old same);
+}
+
+-- a batch that is known stays so, where as much may be reached as before, or less
+pub known_still : {K : ℕ} (k now : Kept K) (from : ℕ) (taken more : List (LoggedBatch K)) (place onward far near h i : ℕ) (p : PlacedBatch K) → near ≤ far → ((b : LoggedBatch K) → Contains taken b → Contains more b)
+    → (IsPassed k taken place h i p → IsPassed now more onward h i p) → IsKnown k from taken place far h i p → IsKnown now from more onward near h i p
+known_still k now from taken more place onward far near h i p le wider passed (inl barred) = inl barred
+known_still k now from taken more place onward far near h i p le wider passed (inr (inl low)) = inr (inl low)
+known_still k now from taken more place onward far near h i p le wider passed (inr (inr (inl m))) = inr (inr (inl (wider p.batch m)))
+known_still k now from taken more place onward far near h i p le wider passed (inr (inr (inr (inl is)))) = inr (inr (inr (inl (passed is))))
+known_still k now from taken more place onward far near h i p le wider passed (inr (inr (inr (inr beyond)))) = inr (inr (inr (inr (omega (arith, beyond, le)))))
+
+-- what is known does not speak of pages and roots, nor of which half is current, and less of what may be reached
+pub known_over : {K : ℕ} (k : Kept K) (always fresh : List (Option (List ℕ))) (root : WholeRoot) (other : OtherHeader) (half : ℕ) (n : NextSlot K) (from : ℕ) (taken : List (LoggedBatch K)) (place far near h i : ℕ) (p : PlacedBatch K) → near ≤ far
+    → IsKnown k from taken place far h i p → IsKnown (record k { always = always; fresh = fresh; root = root; other = other; half = half; next = n }) from taken place near h i p
+known_over k always fresh root other half n from taken place far near h i p le =
+    let now = record k { always = always; fresh = fresh; root = root; other = other; half = half; next = n } in
+    known_still k now from taken taken place place far near h i p le (λ b on. on)
+    (passed_still k now taken taken place place h i p (omega arith) (λ b on low. on) (λ b on c. record { on = record { half = c.on.half; slot = c.on.slot; two = c.on.two; there = c.on.there }; before = c.before }))
 
 abbrev is_in_doubt : {K : ℕ} → NextSlot K → Bool
 is_in_doubt Shut = false
@@ -81,7 +101,7 @@ module _ {K : ℕ} (k : Kept K) (w : WholeRoot) (m : Standing K) (x : Lineage K)
     holds = holds_over k k.root k.other k.first k.second k.half n w x.layout x.table c.holds;
     chain = c.chain;
     there = λ b on. let at = c.there b on in (at.0, record { half = at.1.half; slot = at.1.slot; two = at.1.two; there = at.1.there });
-    known = λ h i p two is mine. known_nearer w.fields.front x.taken x.taken (reach k.next m.place) (reach n m.place) p (omega (arith, near, reach_up k.next m.place)) (λ b on. on) (c.known h i p two is mine);
+    known = λ h i p two is mine. known_over k k.always k.fresh k.root k.other k.half n w.fields.front x.taken m.place (reach k.next m.place) (reach n m.place) h i p (omega (arith, near, reach_up k.next m.place)) (c.known h i p two is mine);
     sessions = c.sessions;
     makes_table = c.makes_table;
     makes_layout = c.makes_layout;
@@ -101,7 +121,7 @@ module _ {K : ℕ} (k : Kept K) (w : WholeRoot) (m : Standing K) (x : Lineage K)
     holds = holds_over k root other k.first k.second h k.next w x.layout x.table c.holds;
     chain = c.chain;
     there = λ b on. let at = c.there b on in (at.0, record { half = at.1.half; slot = at.1.slot; two = at.1.two; there = at.1.there });
-    known = c.known;
+    known = λ j i p two is mine. known_over k k.always k.fresh root other h k.next w.fields.front x.taken m.place (reach k.next m.place) (reach k.next m.place) j i p (omega arith) (c.known j i p two is mine);
     sessions = c.sessions;
     makes_table = c.makes_table;
     makes_layout = c.makes_layout;
@@ -119,6 +139,12 @@ module _ {K : ℕ} (k : Kept K) (w : WholeRoot) (m : Standing K) (x : Lineage K)
     counts_still : (b : LoggedBatch K) → CountsOn k b → CountsOn k2 b
     counts_still b on = record { half = on.half; slot = on.slot; two = on.two; there = still_there k p half_two on.half on.slot (ruled b Counting) on.two on.there }
 
+    before_still : (h i : ℕ) (b : LoggedBatch K) → CountsBefore k b h i → CountsBefore k2 b h i
+    before_still h i b c = record {
+      on = record { half = c.on.half; slot = c.on.slot; two = c.on.two; there = still_there k p half_two c.on.half c.on.slot (ruled b Counting) c.on.two c.on.there };
+      before = c.before;
+    }
+
     far_is : reach k.next m.place ≡ m.place + length d.updates
     far_is = ap (λ (n : NextSlot K). reach n m.place) is
 
@@ -135,7 +161,9 @@ module _ {K : ℕ} (k : Kept K) (w : WholeRoot) (m : Standing K) (x : Lineage K)
       chain = c.chain;
       there = λ b on. let at = c.there b on in (at.0, counts_still b at.1);
       known = λ h i q two at mine. elim (old_or_new k p half_two h i q two at) [
-        | inl old ↦ known_nearer w.fields.front x.taken x.taken (reach k.next m.place) m.place q (reach_up k.next m.place) (λ b on. on) (c.known h i q two old mine)
+        | inl old ↦
+            known_still k k2 w.fields.front x.taken x.taken m.place m.place (reach k.next m.place) m.place h i q (reach_up k.next m.place) (λ b on. on)
+            (passed_still k k2 x.taken x.taken m.place m.place h i q (omega arith) (λ b on low. on) (λ b on before. before_still h i b before)) (c.known h i q two old mine)
         | inr new ↦ inl (ap (λ (y : PlacedBatch K). y.gate) new ∙ barred)
       ];
       sessions = sessions_still;
@@ -151,6 +179,18 @@ module _ {K : ℕ} (k : Kept K) (w : WholeRoot) (m : Standing K) (x : Lineage K)
     updates_more : updates_in more ≡ updates_in x.taken ++ d.updates
     updates_more = flat_map-append (λ (b : LoggedBatch K). b.updates) x.taken (d ∷ []) ∙ ap (λ (us : List (LoggedUpdate K)). updates_in x.taken ++ us) (append-nil d.updates)
 
+    -- of those that are taken then, those that begin up to the place were taken before
+    taken_back : d.first ≡ m.place + 1 → (b : LoggedBatch K) → Contains more b → b.first ≤ m.place → Contains x.taken b
+    taken_back first b on low = by (from_append b x.taken (d ∷ []) (among_these b more on))
+      where
+        last : (e : LoggedBatch K) → Among e (d ∷ []) → e.first ≤ m.place → ⊥
+        last _ here le = omega (arith, le, first)
+        last e (there none) le = elim none [ ]
+
+        by : Among b x.taken ⊎ Among b (d ∷ []) → Contains x.taken b
+        by (inl old) = contains_it b x.taken old
+        by (inr new) = absurd (last b new low)
+
     -- a batch that was in doubt and counts takes the place behind it
     pub leads_placed : 0 < length d.updates → rule ≡ Counting → LeadsAlong k2 w (behind m d) (and_then x d)
     unfolding layout_after
@@ -164,7 +204,10 @@ module _ {K : ℕ} (k : Kept K) (w : WholeRoot) (m : Standing K) (x : Lineage K)
             | inr new ↦ last_there b new follows.session counting_is
           ];
           known = λ h i q two at mine. elim (old_or_new k p half_two h i q two at) [
-            | inl old ↦ known_nearer w.fields.front x.taken more (reach k.next m.place) (m.place + length d.updates) q (omega (arith, far_is)) (λ b on. contains_it b more (among_left b x.taken (d ∷ []) (among_these b x.taken on))) (c.known h i q two old mine)
+            | inl old ↦
+                known_still k k2 w.fields.front x.taken more m.place (m.place + length d.updates) (reach k.next m.place) (m.place + length d.updates) h i q (omega (arith, far_is))
+                (λ b on. contains_it b more (among_left b x.taken (d ∷ []) (among_these b x.taken on)))
+                (passed_still k k2 x.taken more m.place (m.place + length d.updates) h i q (omega arith) (taken_back follows.first) (λ b on before. before_still h i b before)) (c.known h i q two old mine)
             | inr new ↦ inr (inr (inl (subst (λ (y : PlacedBatch K). Contains more y.batch) (sym new) (contains_it d more (among_right d x.taken (d ∷ []) here)))))
           ];
           sessions = sessions_still;

@@ -7,6 +7,7 @@ pub mod Standing
 pub mod Undamaged
 pub mod Staying
 pub mod Elements
+pub mod Earlier
 pub mod Chains
 pub mod Halves
 pub mod PagesApart

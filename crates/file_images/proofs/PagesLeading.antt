@@ -23,9 +23,10 @@ use Rattle.file_images.specs.Meets.{AreFewer, Covers}
 use Rattle.history_pages.specs.KnownPages.{settle_page, ask_nothing}
 use Rattle.file_images.specs.Steps.{with_settled, without_pages}
 use Rattle.history_pages.specs.KnownPages.{page_named}
-use Rattle.file_images.specs.Leads.{Standing, RootHolds, Lineage, LeadsAlong}
+use Rattle.file_images.specs.Leads.{Standing, RootHolds, reach, Lineage, LeadsAlong}
 use Rattle.file_images.specs.LeadingLaws.{NamesNone}
 use Rattle.file_images.proofs.Named.{entry-there, named-by-number}
+use Rattle.file_images.proofs.Histories.{known_over}
 use Rattle.file_images.proofs.Settling.{set_other, set_same}
 
 -- a root names the page of each owner of the layout that it holds
@@ -56,7 +57,7 @@ module _ {K : ℕ} (k : Kept K) (always fresh : List (Option (List ℕ))) (m : S
     holds = holds_still c.holds;
     chain = c.chain;
     there = λ b on. let at = c.there b on in (at.0, record { half = at.1.half; slot = at.1.slot; two = at.1.two; there = at.1.there });
-    known = c.known;
+    known = λ h i p two is mine. known_over k always fresh k.root k.other k.half k.next w.fields.front x.taken m.place (reach k.next m.place) (reach k.next m.place) h i p (omega arith) (c.known h i p two is mine);
     sessions = c.sessions;
     makes_table = c.makes_table;
     makes_layout = c.makes_layout;

@@ -82,7 +82,7 @@ module _ {K : ℕ} (k : Kept K) (image : List ℕ) (was : Shows k image) (shut :
         area = whole.area;
         gates = has_gates k image was shut;
         batches = opened_there k image was shut;
-        taken = joins k image was shut w.fields.session w.fields.front m.place x.taken c.chain c.there (λ h i p two is mine. subst (λ (n : ℕ). IsKnown w.fields.front x.taken n p) far (c.known h i p two is mine));
+        taken = joins k image was shut w.fields.session w.fields.front m.place x.taken c.chain c.there (λ h i p two is mine. subst (λ (n : ℕ). IsKnown k w.fields.front x.taken m.place n h i p) far (c.known h i p two is mine));
       }
 
   abbrev reads : Reads K image m.place m.table

@@ -2,12 +2,10 @@
 use Rattle.std.specs.Prelude.{◌≡◌, ◌⊎◌, ◌<◌, ◌≤◌, ◌+◌, ℕ, List, [], ◌∷◌, ◌++◌, map, flat_map, fold, length, slice_get, Some, Contains}
 use Rattle.grid_types.specs.declared.layout_change.LoggedUpdate.{LoggedUpdate}
 use Rattle.grid_types.specs.declared.owner.Owner.{Owner}
-use Rattle.grid_types.specs.declared.owner.Owner.TheVariants.{Bucket, Part}
 use Rattle.grid_model.specs.Tables.{Table}
 use Rattle.grid_model.specs.Cells.{parts}
 use Rattle.grid_model.specs.Layouts.{Layout}
 use Rattle.grid_model.specs.LayoutLaws.{StandsOver}
-use Rattle.grid_model.specs.Lawful.{Area}
 use Rattle.grid_model.specs.Lone.{opened}
 use Rattle.grid_model.specs.Spellings.{LoggedBatch}
 use Rattle.grid_model.specs.Images.{numbers_of, logged_effect, layout_after, MayRedoAll, Stands, IsShaped}
@@ -62,9 +60,19 @@ reach Shut n = n
 reach Flying n = n
 reach (InDoubt b) n = n + length b.updates
 
--- a batch on a slot is barred, or the root has its updates, or it is one of these, or it begins beyond any place that may be reached
-abbrev pub IsKnown : {K : ℕ} → ℕ → List (LoggedBatch K) → ℕ → PlacedBatch K → Type 0
-IsKnown from taken far p = (p.gate ≡ Barred) ⊎ ((p.batch.first ≤ from) ⊎ (Contains taken p.batch ⊎ (far + 1 < p.batch.first)))
+-- a batch counts on a slot before this one, in the order of half and slot
+pub record CountsBefore {K : ℕ} (k : Kept K) (b : LoggedBatch K) (h i : ℕ) : Type 0 where
+  pub on : CountsOn k b
+  pub before : (on.half < h) ⊎ ((on.half ≡ h) × (on.slot < i))
+
+-- a batch on a slot is passed over: it begins at or below a place, and where one of these batches begins at the same place, that one counts on a slot before it
+pub record IsPassed {K : ℕ} (k : Kept K) (taken : List (LoggedBatch K)) (place h i : ℕ) (p : PlacedBatch K) : Type 0 where
+  pub behind : p.batch.first ≤ place
+  pub later : (b : LoggedBatch K) → Contains taken b → b.first ≡ p.batch.first → CountsBefore k b h i
+
+-- a batch on a slot is barred, or the root has its updates, or it is one of these, or it is passed over, or it begins beyond any place that may be reached
+abbrev pub IsKnown : {K : ℕ} → Kept K → ℕ → List (LoggedBatch K) → (place far h i : ℕ) → PlacedBatch K → Type 0
+IsKnown k from taken place far h i p = (p.gate ≡ Barred) ⊎ ((p.batch.first ≤ from) ⊎ (Contains taken p.batch ⊎ (IsPassed k taken place h i p ⊎ (far + 1 < p.batch.first))))
 
 -- where a root leads from: the layout and the table that its pages hold, and the batches behind it that are taken
 pub record Lineage (K : ℕ) : Type 0 where
@@ -90,12 +98,12 @@ pub record MayFollow {K : ℕ} (k : Kept K) (w : WholeRoot) (x : Lineage K) (pla
   pub first : d.first ≡ place + 1
   pub may : MayRedoAll k.shape (opened x.table x.layout w.fields.front) (updates_in (x.taken ++ d ∷ []))
 
--- a root leads to a standing along a lineage: its pages hold the lineage's layout and table, and from its front the batches of its session that count go up to the place without a gap, and make of both the layout and the table there; no other batch joins them; each may be taken, and so may the one in doubt behind them
+-- a root leads to a standing along a lineage: its pages hold the lineage's layout and table, and from its front the batches of its session that count go up to the place without a gap, and make of both the layout and the table there; no other batch joins them, though one may be passed over; each may be taken, and so may the one in doubt behind them
 pub record LeadsAlong {K : ℕ} (k : Kept K) (w : WholeRoot) (m : Standing K) (x : Lineage K) : Type 0 where
   pub holds : RootHolds k w x.layout x.table
   pub chain : Chain w.fields.front x.taken m.place
   pub there : (b : LoggedBatch K) → Contains x.taken b → (b.session ≡ w.fields.session) × CountsOn k b
-  pub known : (h i : ℕ) (p : PlacedBatch K) → h < 2 → slice_get (on_half k h) i ≡ Some p → p.batch.session ≡ w.fields.session → IsKnown w.fields.front x.taken (reach k.next m.place) p
+  pub known : (h i : ℕ) (p : PlacedBatch K) → h < 2 → slice_get (on_half k h) i ≡ Some p → p.batch.session ≡ w.fields.session → IsKnown k w.fields.front x.taken m.place (reach k.next m.place) h i p
   pub sessions : (h i : ℕ) (p : PlacedBatch K) → h < 2 → slice_get (on_half k h) i ≡ Some p → p.batch.session ≤ w.fields.session
   pub makes_table : m.table ≡ fold logged_effect x.table (updates_in x.taken)
   pub makes_layout : m.layout ≡ layout_after x.layout (updates_in x.taken)

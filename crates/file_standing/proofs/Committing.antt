@@ -142,7 +142,7 @@ module _ {K : ℕ} (b : Books) (k : Kept K) (m : Standing K) (e : ℕ × BucketB
 
     none-committed : NoneAhead k2 w (behind m d).place
     none-committed h i p less on same = elim (old_or_new k (ruled d Counting) two h i p less on) [
-      | inl was ↦ omega (arith, f.none h i p less was same)
+      | inl was ↦ omega (arith, f.none mine h i p less was same)
       | inr new ↦ omega (arith, ap (λ (y : PlacedBatch K). y.batch.first) new, is.hold.place)
     ]
 
@@ -163,7 +163,7 @@ module _ {K : ℕ} (b : Books) (k : Kept K) (m : Standing K) (e : ℕ × BucketB
       counts = counts-committed;
       before = omega (arith, f.before);
       session = f.session;
-      none = none-committed;
+      none = λ own_session. none-committed;
     }
 
   file-committed : IsFile b3 k2 (behind m d)

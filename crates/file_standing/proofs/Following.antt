@@ -95,4 +95,4 @@ module _ {K : ℕ} (b : Books) (k : Kept K) (m : Standing K) (hold : BooksHold b
 
     -- while its batch is in doubt, the root leads where it did
     pub leads-in-doubt : k.shape ≡ b.shape → w.fields.session ≡ b.session → LeadsAlong (record k { fresh = fresh; next = InDoubt (batch_of_one b u n) }) w m x
-    leads-in-doubt shape mine = leads_doubted (with_fresh k fresh) m (batch_of_one b u n) w x (λ h i p two on same. inr (f.none h i p two on same)) (may-follow-behind shape mine) (leads_fresh k fresh m w x f.along)
+    leads-in-doubt shape mine = leads_doubted (with_fresh k fresh) m (batch_of_one b u n) w x (λ h i p two on same. inr (f.none mine h i p two on same)) (may-follow-behind shape mine) (leads_fresh k fresh m w x f.along)

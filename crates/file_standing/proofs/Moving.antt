@@ -40,7 +40,7 @@ module _ {K : ℕ} (b : Books) (k : Kept K) (m : Standing K) (number rooted : �
     fresh = hold.fresh;
   }
 
-  pub moved-follows : (w : WholeRoot) (x : Lineage K) → LeadsAlong j w m x → NoneAhead j w m.place → Follows b k m w x → Follows c j m w x
+  pub moved-follows : (w : WholeRoot) (x : Lineage K) → LeadsAlong j w m x → (w.fields.session ≡ b.session → NoneAhead j w m.place) → Follows b k m w x → Follows c j m w x
   moved-follows w x along none f = record { along = along; names = f.names; counts = f.counts; before = f.before; session = f.session; none = none }
 
 -- where the other header page is closed, no root was tried on it

@@ -18,7 +18,7 @@ use Rattle.file_images.specs.Kept.{PlacedBatch, Kept, on_half}
 use Rattle.file_images.specs.Leads.{Standing, RootHolds, LeadsAlong, lineage_at}
 use Rattle.file_images.proofs.Histories.{shut_no_doubt}
 use Rattle.file_books.specs.Books.{Books}
-use Rattle.file_standing.specs.Files.{Follows, FollowsSome, IsFile}
+use Rattle.file_standing.specs.Files.{NoneAhead, Follows, FollowsSome, IsFile}
 use Rattle.file_standing.specs.Steps.{IsNextRoot}
 
 module _ {K : ℕ} (b : Books) (k : Kept K) (m : Standing K) (w : WholeRoot) (is : IsFile b k m) (next : IsNextRoot b w) where
@@ -37,9 +37,13 @@ module _ {K : ℕ} (b : Books) (k : Kept K) (m : Standing K) (w : WholeRoot) (is
   copied : AreaHolds k.always w.area m.layout m.table × NamesCurrent b.front b.pages w.area
   copied = copy-holds b.shape w.area b.pages k.always b.front m.layout m.table is.hold.stands is.hold.size is.hold.holds tells
 
-  -- a batch of its session is one of the old root's
-  same-session : (h i : ℕ) (p : PlacedBatch K) → h < 2 → slice_get (on_half k h) i ≡ Some p → p.batch.session ≡ w.fields.session → p.batch.session ≡ k.root.fields.session
-  same-session h i p two at mine = omega (arith, old.along.along.sessions h i p two at, old.along.session, next.session, mine)
+  -- where there is a batch of its session, the old root is of that session too
+  old-session : (h i : ℕ) (p : PlacedBatch K) → h < 2 → slice_get (on_half k h) i ≡ Some p → p.batch.session ≡ w.fields.session → k.root.fields.session ≡ b.session
+  old-session h i p two at mine = omega (arith, old.along.along.sessions h i p two at, old.along.session, next.session, mine)
+
+  -- so that none begins beyond the place
+  none-beyond : NoneAhead k w m.place
+  none-beyond h i p two at mine = let same = old-session h i p two at mine in old.along.none same h i p two at (mine ∙ next.session ∙ sym same)
 
   new-holds : RootHolds k w m.layout m.table
   new-holds = record {
@@ -57,7 +61,7 @@ module _ {K : ℕ} (b : Books) (k : Kept K) (m : Standing K) (w : WholeRoot) (is
     holds = new-holds;
     chain = next.front ∙ sym is.hold.place;
     there = λ d on. contains-none d on;
-    known = λ h i p two at mine. inr (inl (omega (arith, old.along.none h i p two at (same-session h i p two at mine), next.front, is.hold.place)));
+    known = λ h i p two at mine. inr (inl (omega (arith, none-beyond h i p two at mine, next.front, is.hold.place)));
     sessions = λ h i p two at. omega (arith, old.along.along.sessions h i p two at, old.along.session, next.session);
     makes_table = refl;
     makes_layout = refl;
@@ -72,5 +76,5 @@ module _ {K : ℕ} (b : Books) (k : Kept K) (m : Standing K) (w : WholeRoot) (is
     counts = subst (λ (p : ℕ). CountsRoot b.pages b.front p (opened m.table m.layout p)) (sym next.front) (roots-count b.shape b.pages k.always b.front m.layout m.table is.hold.stands is.hold.holds);
     before = omega (arith, next.front);
     session = omega (arith, next.session);
-    none = λ h i p two at mine. old.along.none h i p two at (same-session h i p two at mine);
+    none = λ own. none-beyond;
   }

@@ -15,7 +15,7 @@ use Rattle.file_standing.specs.FileLaws.{RootStepStands}
 use Rattle.file_standing.proofs.Along.{at-standing}
 use Rattle.file_standing.proofs.Books.{used-alike, used-here, used-other, idle-half-two, idle-half-apart}
 use Rattle.file_standing.proofs.NextRoot.{new-follows}
-use Rattle.file_standing.proofs.RootSteps.{closed-file, turned-file, tried-file, rooted-file, loose-file, cleaned-file, turned_at, turned_with, rooted-follows, cleaned_at, cleaned_with, cleaned-form, cleaned-follows}
+use Rattle.file_standing.proofs.RootSteps.{closed-file, turned-file, exchanged-file, tried-file, rooted-file, loose-file, cleaned-file, turned_at, turned_with, rooted-follows, cleaned_at, cleaned_with, cleaned-form, cleaned-follows}
 
 module _ {K : ℕ} (b : Books) (k : Kept K) (m : Standing K) (s : State K) (w : WholeRoot) (is : IsFile b k m) (alone : IsAlone b k m s) (next : IsNextRoot b w) where
   -- the books and what is kept, where the other header page is closed and the halves' roles are exchanged, as the other one is clear
@@ -105,9 +105,10 @@ pub root-steps : {K : ℕ} → RootStepStands K
 root-steps = record {
   closed = λ b k m is. closed-file b k m is;
   turned = λ b k m shut is. turned-file b k m (used_of b (idle_half b) == 0) shut is;
+  exchanged = λ b k m quiet is. exchanged-file b k m (used_of b (idle_half b) == 0) quiet is;
   tried = λ b k m w shut trying next is. tried-file b k m w trying next is;
   rooted = λ b k m w shut trying next is. rooted-file b k m w trying next is;
-  loosened = λ b k m loose front is. loose-file b k m loose front is;
+  loosened = λ b k m loose front mine is. loose-file b k m loose front mine is;
   cleaned = λ b k m loose front is. cleaned-file b k m loose front is;
   alone = λ b k m s w is alone next. root-alone b k m s w is alone next;
 }

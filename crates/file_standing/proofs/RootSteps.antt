@@ -7,7 +7,7 @@ use Rattle.file_images.specs.Kept.{ShutHeader, LooseHeader, Kept}
 use Rattle.file_images.specs.Leads.{Standing, Lineage, lineage_at}
 use Rattle.file_images.specs.Steps.{first_by, second_by, loosened, none_used, other_half, with_turned, with_closed, with_tried, with_root, with_loose, with_shut}
 use Rattle.file_images.proofs.Histories.{leads_over}
-use Rattle.file_images.proofs.Leading.{leads_loosened, leads_cleared}
+use Rattle.file_images.proofs.Leading.{leads_loosened, leads_emptied}
 use Rattle.file_books.specs.Books.{Books}
 use Rattle.file_books.specs.Effects.{used_of, idle_half, with_used, closed_books, rooted_books, cleaned_books}
 use Rattle.file_standing.specs.Files.{Follows, IsFile}
@@ -85,6 +85,46 @@ module _ {K : ℕ} (b : Books) (k : Kept K) (m : Standing K) where
     each = λ w may. let f = is.each w may in record { lineage = f.lineage; along = turned-follows false w f.lineage f.along };
   }
 
+  -- books whose halves' roles are exchanged where the other one is clear, where no root is tried
+  abbrev pub exchanged_at : Bool → Books
+  exchanged_at t = record b { trying_at = None; half = cond t (idle_half b) b.half }
+
+  exchanged-follows : (t : Bool) (w : WholeRoot) (x : Lineage K) → Follows b k m w x → Follows (exchanged_at t) (turned_with t) m w x
+  exchanged-follows true w x f = moved-follows b k m b.number b.rooted_at None (idle_half b) b.first_used b.second_used k.root k.other k.first k.second (other_half k.half) w x (leads_over k w m x f.along k.root k.other (other_half k.half)) f.none f
+  exchanged-follows false w x f = moved-follows b k m b.number b.rooted_at None b.half b.first_used b.second_used k.root k.other k.first k.second k.half w x f.along f.none f
+
+  pub exchanged-file : (t : Bool) → b.trying_at ≡ None → IsFile b k m → IsFile (exchanged_at t) (turned_with t) m
+  exchanged-file true quiet is = record {
+    agree = record {
+      shape = is.agree.shape;
+      number = is.agree.number;
+      root = is.agree.root;
+      tried = λ w on. sym quiet ∙ is.agree.tried w on;
+      half = ap other_half is.agree.half ∙ sym (idle-half-other b is.agree.two);
+      two = idle-half-two b;
+      first = is.agree.first;
+      second = is.agree.second;
+    };
+    hold = moved-hold b k m b.number b.rooted_at None (idle_half b) b.first_used b.second_used k.root k.other k.first k.second (other_half k.half) is.hold;
+    shut = is.shut;
+    each = λ w may. let f = is.each w may in record { lineage = f.lineage; along = exchanged-follows true w f.lineage f.along };
+  }
+  exchanged-file false quiet is = record {
+    agree = record {
+      shape = is.agree.shape;
+      number = is.agree.number;
+      root = is.agree.root;
+      tried = λ w on. sym quiet ∙ is.agree.tried w on;
+      half = is.agree.half;
+      two = is.agree.two;
+      first = is.agree.first;
+      second = is.agree.second;
+    };
+    hold = moved-hold b k m b.number b.rooted_at None b.half b.first_used b.second_used k.root k.other k.first k.second k.half is.hold;
+    shut = is.shut;
+    each = λ w may. let f = is.each w may in record { lineage = f.lineage; along = exchanged-follows false w f.lineage f.along };
+  }
+
   -- while the next root is tried
   tried-follows : (new w : WholeRoot) (x : Lineage K) → Follows b k m w x → Follows b (with_tried k (Some new)) m w x
   tried-follows new w x f = moved-follows b k m b.number b.rooted_at b.trying_at b.half b.first_used b.second_used k.root (LooseHeader (Some new)) k.first k.second k.half w x (leads_over k w m x f.along k.root (LooseHeader (Some new)) k.half) f.none f
@@ -137,13 +177,13 @@ module _ {K : ℕ} (b : Books) (k : Kept K) (m : Standing K) where
   abbrev h : ℕ
   h = idle_half b
 
-  loose-follows : (w : WholeRoot) (x : Lineage K) → w.fields.front ≡ m.place → Follows b k m w x → Follows b (with_loose k h) m w x
-  loose-follows w x front f =
+  loose-follows : (w : WholeRoot) (x : Lineage K) → w.fields.front ≡ m.place → w.fields.session ≡ b.session → Follows b k m w x → Follows b (with_loose k h) m w x
+  loose-follows w x front mine f =
       moved-follows b k m b.number b.rooted_at b.trying_at b.half b.first_used b.second_used k.root k.other (first_by h (map loosened) k.first) (second_by h (map loosened) k.second) k.half w x
-      (leads_loosened k h m w x (idle-half-two b) (all-behind k h m.place w (idle-half-two b) front f.none) f.along) (loose-none k h (idle-half-two b) w m.place f.none) f
+      (leads_loosened k h m w x (idle-half-two b) (all-behind k h m.place w (idle-half-two b) front (f.none mine)) f.along) (λ own. loose-none k h (idle-half-two b) w m.place (f.none own)) f
 
-  pub loose-file : k.other ≡ LooseHeader None → k.root.fields.front ≡ b.front → IsFile b k m → IsFile b (with_loose k h) m
-  loose-file loose front is = record {
+  pub loose-file : k.other ≡ LooseHeader None → k.root.fields.front ≡ b.front → k.root.fields.session ≡ b.session → IsFile b k m → IsFile b (with_loose k h) m
+  loose-file loose front mine is = record {
     agree = record {
       shape = is.agree.shape;
       number = is.agree.number;
@@ -158,7 +198,7 @@ module _ {K : ℕ} (b : Books) (k : Kept K) (m : Standing K) where
     shut = is.shut;
     each = λ w may. let f = is.each w may in record {
       lineage = f.lineage;
-      along = loose-follows w f.lineage (ap (λ (r : WholeRoot). r.fields.front) (only-root k w loose may) ∙ front ∙ sym is.hold.place) f.along;
+      along = loose-follows w f.lineage (ap (λ (r : WholeRoot). r.fields.front) (only-root k w loose may) ∙ front ∙ sym is.hold.place) (ap (λ (r : WholeRoot). r.fields.session) (only-root k w loose may) ∙ mine) f.along;
     };
   }
 
@@ -179,10 +219,10 @@ module _ {K : ℕ} (b : Books) (k : Kept K) (m : Standing K) where
   pub cleaned-follows : (t : Bool) (w : WholeRoot) (x : Lineage K) → w.fields.front ≡ m.place → Follows b k m w x → Follows (cleaned_at t) (cleaned_with t) m w x
   cleaned-follows true w x front f =
       moved-follows b k m b.number b.rooted_at b.trying_at h (first_by h (λ _. 0) b.first_used) (second_by h (λ _. 0) b.second_used) k.root k.other (first_by h none_used k.first) (second_by h none_used k.second) (other_half k.half) w x
-      (leads_over (with_shut k h) w m x (leads_cleared k h m w x (idle-half-two b) (all-behind k h m.place w (idle-half-two b) front f.none) f.along) k.root k.other (other_half k.half)) (clear-none k h (idle-half-two b) w m.place f.none) f
+      (leads_over (with_shut k h) w m x (leads_emptied k h m w x (idle-half-two b) front f.along) k.root k.other (other_half k.half)) (λ own. clear-none k h (idle-half-two b) w m.place (f.none own)) f
   cleaned-follows false w x front f =
       moved-follows b k m b.number b.rooted_at b.trying_at b.half (first_by h (λ _. 0) b.first_used) (second_by h (λ _. 0) b.second_used) k.root k.other (first_by h none_used k.first) (second_by h none_used k.second) k.half w x
-      (leads_cleared k h m w x (idle-half-two b) (all-behind k h m.place w (idle-half-two b) front f.none) f.along) (clear-none k h (idle-half-two b) w m.place f.none) f
+      (leads_emptied k h m w x (idle-half-two b) front f.along) (λ own. clear-none k h (idle-half-two b) w m.place (f.none own)) f
 
   cleaned-at-file : (t : Bool) → k.other ≡ LooseHeader None → k.root.fields.front ≡ b.front → IsFile b k m → IsFile (cleaned_at t) (cleaned_with t) m
   cleaned-at-file true loose front is = record {

@@ -48,13 +48,14 @@ pub record CommitStands (K : ℕ) : Type 0 where
       → IsFile b k m → InSession b k → IsAlone b k m s → IsWritten b m e u n pages fresh → used_of b b.half < b.shape.slots
       → IsAlone (committed_books (published_books b (publishing m e u n pages))) (committed_kept b k pages fresh (batch_of_one b u n)) (behind m (batch_of_one b u n)) (published e u n s)
 
--- a root step leaves a file where it stands at each of its points: once the other header page is closed; once the halves' roles are exchanged, where the other one is clear; while the next root is tried; once it stands; while the gates of the half that is not current are cleared, which the root has all behind it; and once they are. A lone caller's state is then the one after a root step
+-- a root step leaves a file where it stands at each of its points: once the other header page is closed; once the halves' roles are exchanged, where the other one is clear, and likewise where no root is tried; while the next root is tried; once it stands; while the gates of the half that is not current are cleared, which a root of the session of the books has all behind it; and once they are. A lone caller's state is then the one after a root step
 pub record RootStepStands (K : ℕ) : Type 0 where
   pub closed : (b : Books) (k : Kept K) (m : Standing K) → IsFile b k m → IsFile (closed_books b) (with_closed k) m
   pub turned : (b : Books) (k : Kept K) (m : Standing K) → k.other ≡ ShutHeader → IsFile b k m → IsFile (turned_books b) (turned_kept b k) m
+  pub exchanged : (b : Books) (k : Kept K) (m : Standing K) → b.trying_at ≡ None → IsFile b k m → IsFile (closed_books (turned_books b)) (turned_kept b k) m
   pub tried : (b : Books) (k : Kept K) (m : Standing K) (w : WholeRoot) → k.other ≡ ShutHeader → b.trying_at ≡ Some b.front → IsNextRoot b w → IsFile b k m → IsFile b (with_tried k (Some w)) m
   pub rooted : (b : Books) (k : Kept K) (m : Standing K) (w : WholeRoot) → k.other ≡ ShutHeader → b.trying_at ≡ Some b.front → IsNextRoot b w → IsFile b k m → IsFile (rooted_books b) (with_root k w) m
-  pub loosened : (b : Books) (k : Kept K) (m : Standing K) → k.other ≡ LooseHeader None → k.root.fields.front ≡ b.front → IsFile b k m → IsFile b (with_loose k (idle_half b)) m
+  pub loosened : (b : Books) (k : Kept K) (m : Standing K) → k.other ≡ LooseHeader None → k.root.fields.front ≡ b.front → k.root.fields.session ≡ b.session → IsFile b k m → IsFile b (with_loose k (idle_half b)) m
   pub cleaned : (b : Books) (k : Kept K) (m : Standing K) → k.other ≡ LooseHeader None → k.root.fields.front ≡ b.front → IsFile b k m → IsFile (cleaned_books b) (cleaned_kept b k) m
   pub alone : (b : Books) (k : Kept K) (m : Standing K) (s : State K) (w : WholeRoot) → IsFile b k m → IsAlone b k m s → IsNextRoot b w
       → (let c : Books = rooted_books (turned_books (closed_books b)) in IsAlone (cleaned_books c) (cleaned_kept c (with_root (turned_kept b (with_closed k)) w)) m (root s))

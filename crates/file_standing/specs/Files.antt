@@ -30,14 +30,14 @@ pub record AgreeWith {K : ℕ} (b : Books) (k : Kept K) : Type 0 where
 abbrev pub NoneAhead : {K : ℕ} → Kept K → WholeRoot → ℕ → Type 0
 NoneAhead {K} k w place = (h i : ℕ) (p : PlacedBatch K) → h < 2 → slice_get (on_half k h) i ≡ Some p → p.batch.session ≡ w.fields.session → p.batch.first ≤ place
 
--- a root that may be the newest leads to a standing along a lineage that the books know: the pages that it names are current at its front, and it counts as a lone caller's state behind the lineage; its session is that of the books or an earlier one; and no batch of its session begins beyond the place
+-- a root that may be the newest leads to a standing along a lineage that the books know: the pages that it names are current at its front, and it counts as a lone caller's state behind the lineage; its session is that of the books or an earlier one; and if it is of that of the books, no batch of its session begins beyond the place
 pub record Follows {K : ℕ} (b : Books) (k : Kept K) (m : Standing K) (w : WholeRoot) (x : Lineage K) : Type 0 where
   pub along : LeadsAlong k w m x
   pub names : NamesCurrent w.fields.front b.pages w.area
   pub counts : CountsRoot b.pages b.front w.fields.front (state_along w x)
   pub before : w.fields.front ≤ b.front
   pub session : w.fields.session ≤ b.session
-  pub none : NoneAhead k w m.place
+  pub none : w.fields.session ≡ b.session → NoneAhead k w m.place
 
 -- a root follows along some lineage
 pub record FollowsSome {K : ℕ} (b : Books) (k : Kept K) (m : Standing K) (w : WholeRoot) : Type 0 where

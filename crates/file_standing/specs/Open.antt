@@ -15,6 +15,13 @@ pub record IsOpenAt {K : ℕ} {D : Type 0} (g : Ghosts D) (b : Books) (m : Stand
   pub file : IsFile b kept m
   pub meets : Meets g kept disk
 
+-- a file is open at a standing, and each root that may be the newest is of the session
+pub record IsOpenInSession {K : ℕ} {D : Type 0} (g : Ghosts D) (b : Books) (m : Standing K) (disk : D) : Type 0 where
+  pub kept : Kept K
+  pub file : IsFile b kept m
+  pub session : InSession b kept
+  pub meets : Meets g kept disk
+
 -- a file is open at a standing as a lone caller's state says, where no root step failed; each root that may be the newest is of the session
 pub record IsOpenAlone {K : ℕ} {D : Type 0} (g : Ghosts D) (b : Books) (m : Standing K) (s : State K) (disk : D) : Type 0 where
   pub kept : Kept K
