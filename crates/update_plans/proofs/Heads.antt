@@ -1,6 +1,7 @@
 -- What a page tells of its head, where it is the page of a box of a layout.
-use Rattle.std.proofs.Common.{◌≡◌, ◌≤◌, ℕ, List, length, sym, ap, ◌∙◌, IsTrue}
+use Rattle.std.proofs.Common.{◌≡◌, ◌≤◌, ℕ, Bool, true, false, List, length, sym, ap, subst, ◌∙◌, true≢false, IsTrue}
 use Rattle.grid_types.specs.declared.shape.Shape.{Shape}
+use Rattle.grid_types.specs.Regions.{contains, IsRegion}
 use Rattle.grid_types.specs.Shapes.{is_shape}
 use Rattle.grid_types.proofs.Places.{within-limits}
 use Rattle.page_fields.proofs.Entries.{AreBytes}
@@ -14,6 +15,7 @@ use Rattle.bucket_page.specs.OnPage.{head_told, bucket_told}
 use Rattle.bucket_page.proofs.OnPage.{told}
 use Rattle.change_plans.specs.Plans.{IsPageOf}
 use Rattle.change_plans.proofs.Overfull.{roomier}
+use Rattle.update_plans.specs.Putting.{HasNoBucketOf}
 
 -- a lawful shape's buckets hold at most 48 records
 pub few-records : (shape : Shape) → IsTrue (is_shape shape) → shape.capacity ≤ 48
@@ -44,3 +46,13 @@ at-head shape L t k e from n count few fits rows h = record {
   spelled = h.spelled;
   count = ap (λ b. length b.rows) (is-told shape t e from few h.stands.lawful fits h.spelled) ∙ rows;
 }
+
+-- where the head's region does not have a key, the page spells no bucket whose region has it
+pub not-here : {K : ℕ} (capacity : ℕ) (from k : List ℕ) (h : Head K) (found : Bool) → K ≤ 4 → capacity ≤ 48 → AreBytes from → h ≡ head_told K from → found ≡ contains h.region k → found ≡ false → HasNoBucketOf K capacity from k
+not-here {K} capacity from k h found few small fits is value out b s has =
+    let there : found ≡ true = value ∙ ap (λ (x : Head K). contains x.region k) is ∙ sym (ap (λ (x : BucketOf K). contains x.box.region k) (told K capacity from b few small fits s)) ∙ has in
+    true≢false (sym there ∙ out)
+
+-- the region of the head of a page that spells a bucket is one
+pub is-region : {K : ℕ} (capacity : ℕ) (from : List ℕ) (h : Head K) → h ≡ head_told K from → SpellsBucket capacity from (bucket_told K from) → IsRegion K h.region
+is-region {K} capacity from h is s = subst (λ (x : Head K). IsRegion K x.region) (sym is) s.lawful.region

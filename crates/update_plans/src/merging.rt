@@ -9,6 +9,7 @@ ghost use Rattle.grid_model.specs.Neighbours.{can_join};
 ghost use Rattle.grid_model.specs.Tables.{Table, get, without};
 ghost use Rattle.linear_scales.specs.Limited.{scales_of};
 ghost use Rattle.history_pages.specs.PageLaws.{IsChange};
+ghost use Rattle.bucket_page.specs.OnPage.{head_told};
 ghost use Rattle.change_plans.specs.Plans.{IsPageOf, IsPageBeside};
 ghost use Rattle.file_books.specs.Books.{AreScalesOf};
 ghost use Rattle.update_plans.specs.Plans.{IsPlanOf, IsSoundPlan};
@@ -61,6 +62,8 @@ pub fn plan_merge<const K: usize>(
     ensures note { (L : Layout K) (t : Table) (e f : ℕ × BucketBox K)
         → IsPageBeside shape.now L t e f other.now
         → IfSome result (λ p. p.note ≡ note.Merge f.0) }
+    ensures number { IfSome result (λ p. p.bucket ≡ (head_told K from.now).number) }
+    ensures with { IfSome result (λ p. p.note ≡ note.Merge (head_told K other.now).number) }
     ensures sound { IfSome result (IsSoundPlan shape.now (scales_of scales.now) (Remove key.now)) }
     ensures kept { IfNone result (joined.new ≡ joined.old) }
 {

@@ -1,10 +1,12 @@
 //! A record is removed, and the layout stays.
 ghost use Rattle.std.specs.Prelude.{◌≡◌, ◌≤◌, ℕ, List, [], is_some, IfSome, IfNone};
+ghost use Rattle.grid_types.specs.declared.layout_change.LayoutChange.TheVariants as note;
 ghost use Rattle.grid_types.specs.declared.shape.Shape.{Shape};
 ghost use Rattle.grid_types.specs.declared.sizes.TheConstants.{MOST_ATTRIBUTES};
 ghost use Rattle.grid_types.specs.declared.update.Update.TheVariants.{Remove};
 ghost use Rattle.grid_model.specs.Layouts.{BucketBox, Layout};
 ghost use Rattle.grid_model.specs.Tables.{Table, get};
+ghost use Rattle.bucket_page.specs.OnPage.{head_told};
 ghost use Rattle.change_plans.specs.Plans.{IsPageOf};
 ghost use Rattle.file_books.specs.Books.{AreScalesOf};
 ghost use Rattle.update_plans.specs.Plans.{IsPlanOf, IsSoundPlan};
@@ -33,6 +35,8 @@ pub fn plan_removal<const K: usize>(
     ensures sound { (shape : Shape) (scales : List (List ℕ))
         → AreScalesOf K shape scales
         → IfSome result (IsSoundPlan shape scales (Remove key.now)) }
+    ensures number { IfSome result (λ p. p.bucket ≡ (head_told K from.now).number) }
+    ensures note { IfSome result (λ p. p.note ≡ note.Plain) }
     ensures kept { IfNone result (left.new ≡ left.old) }
 {
     let Some(head) = judge::<K>(from, MOST_RECORDS as u16) else {
