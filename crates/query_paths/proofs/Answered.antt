@@ -1,19 +1,24 @@
--- What a get answers where the place has the pages of a layout and a table.
-use Rattle.std.proofs.Common.{◌≡◌, ℕ, Bool, true, cond, List, Option, None, refl, sym, ap, ◌∙◌, subst}
+-- What a key's bucket is, and what a get answers, where the place has the pages of a layout and a table.
+use Rattle.std.proofs.Common.{◌≡◌, ℕ, Bool, true, cond, List, length, Option, Some, None, refl, sym, ap, ◌∙◌, subst}
 use Rattle.std.specs.FinMap.Entries.{find-where_key}
 use Rattle.grid_types.specs.Keys.{IsKey, key_cmp}
 use Rattle.grid_types.specs.Regions.{contains}
 use Rattle.grid_model.specs.Cells.{dims, cell_of}
 use Rattle.grid_model.specs.ScaleLaws.{IsCell}
 use Rattle.grid_model.specs.Tables.{Table, get, pairs_of}
-use Rattle.grid_model.specs.Layouts.{BucketBox, Layout, records_inside}
+use Rattle.grid_model.specs.Layouts.{BucketBox, Layout, holder, records_inside}
 use Rattle.grid_model.specs.Spellings.{BucketOf}
+use Rattle.grid_model.specs.Buckets.{SpellsBucket}
 use Rattle.grid_model.specs.Expected.{SoughtKey}
 use Rattle.grid_model.specs.Images.{bucket_on}
+use Rattle.grid_model.proofs.Boxes.{one-value}
 use Rattle.grid_model.proofs.CellLaws.{have-indices}
 use Rattle.grid_model.proofs.Divided.{pairs-of-records}
 use Rattle.grid_model.proofs.TableLaws.{alike}
+use Rattle.bucket_page.specs.declared.head.Head.{Head}
+use Rattle.bucket_page.specs.OnPage.{bucket_told}
 use Rattle.query_paths.specs.Pinned.{Place, IsPinnedTo}
+use Rattle.query_paths.specs.Finding.{IsBucketFound, IsBoxFound}
 use Rattle.query_paths.specs.Paths.{IsGot, IsUnexpected}
 use Rattle.query_paths.proofs.Naming.{place_over, pinned-place, named-box, bucket-is, as-expected}
 
@@ -31,6 +36,24 @@ module _ {K : ℕ} (p : Place) (L : Layout K) (t : Table) (pin : IsPinnedTo p L 
 
   cell : IsCell (dims L.scales) (cell_of L.scales key)
   cell = (have-indices K).key L.scales key (is_key.count ∙ sym pin.stands.sound.attributes)
+
+  found-over : (bytes : List ℕ) (head : Head K) (e : ℕ × BucketBox K) → IsBucketFound same key bytes head → holder L key ≡ Some e → IsBoxFound p.shape L t key e bytes head
+  found-over bytes head e f holds =
+      let found = named-box p.shape L t p.file_page pin.stands (cell_of L.scales key) cell head.number f.names in
+      let entry : (head.number, found.0) ≡ e = one-value (head.number, found.0) e (sym (found.1.has key is_key refl) ∙ holds) in
+      let is : bucket_told K bytes ≡ bucket_on t (head.number, found.0) = bucket-is p.shape L t p.file_page pin.stands head.number found.0 bytes (bucket_told K bytes) found.1.there (f.has.page.given _ refl) f.has.expected.spelled in
+      subst (λ (x : ℕ × BucketBox K). IsBoxFound p.shape L t key x bytes head) entry (record {
+        stands = pin.stands;
+        holds = found.1.has key is_key refl;
+        spelled = subst (SpellsBucket p.shape.capacity bytes) is f.has.expected.spelled;
+        number = refl;
+        region = ap (λ (h : Head K). h.region) f.head_is ∙ ap (λ (b : BucketOf K). b.box.region) is;
+        count = sym f.count ∙ ap (λ (b : BucketOf K). length b.rows) is;
+      })
+
+  -- the bucket that is found is that of the box that has the key
+  pub box-found : (bytes : List ℕ) (head : Head K) (e : ℕ × BucketBox K) → IsBucketFound p key bytes head → holder L key ≡ Some e → IsBoxFound p.shape L t key e bytes head
+  box-found bytes head e f holds = found-over bytes head e (subst (λ (q : Place). IsBucketFound q key bytes head) (pinned-place p L t pin) f) holds
 
   answered-over : (bytes : List ℕ) (answer : Option (List ℕ)) → IsGot K same key bytes answer → answer ≡ get t key
   answered-over bytes answer f =

@@ -4,11 +4,11 @@ use Rattle.grid_types.specs.declared.owner.Owner.TheVariants.{Bucket, Part}
 use Rattle.grid_types.specs.declared.sizes.TheConstants.{MOST_ATTRIBUTES, MOST_RECORDS, WORDS_ON_PAGE}
 use Rattle.grid_types.specs.Regions.{contains}
 use Rattle.grid_model.specs.Lists.{is_among}
-use Rattle.grid_model.specs.Cells.{dims, cells, part_of}
+use Rattle.grid_model.specs.Cells.{dims, cells, cell_of, part_of}
 use Rattle.grid_model.specs.ScaleLaws.{IsCell}
 use Rattle.grid_model.specs.Spellings.{BucketOf, directory_spelling}
 use Rattle.grid_model.specs.Buckets.{SpellsBucket}
-use Rattle.grid_model.specs.Expected.{Sought, IsSought, IsExpectedPart, IsExpectedBucket}
+use Rattle.grid_model.specs.Expected.{Sought, SoughtKey, IsSought, IsExpectedPart, IsExpectedBucket}
 use Rattle.grid_model.proofs.Indices.{cell_index-below}
 use Rattle.history_pages.specs.SpellingLaws.{cells_in_part}
 use Rattle.bucket_page.specs.declared.head.Head.{Head}
@@ -18,6 +18,7 @@ use Rattle.directory_pages.specs.Spelling.{SpellsPart, IsDirectoryPage}
 use Rattle.directory_pages.proofs.Standing.{part_there, one}
 use Rattle.query_paths.specs.Pinned.{Place}
 use Rattle.query_paths.specs.Paths.{index_in_part, IsPage, NamesBucket, HasBucket, IsUnexpected, AsPart, AsBucket}
+use Rattle.query_paths.specs.Finding.{IsBucketFound}
 use Rattle.query_paths.specs.Readings.{IsGoodPart, IsBadPart, IsGoodBucket, IsBadBucket}
 
 -- a cell's index in its part is one of the part's
@@ -132,3 +133,16 @@ module _ {K : ℕ} (p : Place) (number : ℕ) (bytes : List ℕ) (at capacity : 
         let same : b ≡ bucket_told K bytes = one_bucket_spelled capacity bytes b (bucket_told K bytes) few low (subst (λ (c : ℕ). SpellsBucket c bytes b) (sym is) t) s in
         other (ap (λ (h : Head K). h.number) told ∙ ap (λ (x : BucketOf K). x.number) (sym same) ∙ n);
   }
+
+-- a good bucket that the directory names at a key's cell, and whose region has the key, is that of the key
+pub key-found : {K : ℕ} (p : Place) (key bytes : List ℕ) (number at : ℕ) (head : Head K) → IsGoodBucket K p number bytes at head → NamesBucket p (cell_of p.scales key) number → IsTrue (contains head.region key) → IsBucketFound p key bytes head
+key-found {K} p key bytes number at head good named inside = record {
+  names = subst (NamesBucket p (cell_of p.scales key)) (sym good.number_is) named;
+  among = subst (λ (n : ℕ). IsTrue (is_among p.numbers n)) (sym good.number_is) good.named;
+  has = subst (λ (n : ℕ). HasBucket p n (SoughtKey key) bytes (bucket_told K bytes)) (sym good.number_is) (has-bucket p number (SoughtKey key) bytes at head good (λ k e. subst (λ (x : List ℕ). IsTrue (contains head.region x)) (sym e) inside));
+  head_is = good.head_is;
+  inside = inside;
+  count = good.rows;
+  fits = good.fits;
+  few = good.few;
+}

@@ -1,6 +1,7 @@
 pub mod Pinned
 pub mod Calls
 pub mod Paths
+pub mod Finding
 pub mod Readings
 pub mod Gathering
 pub mod Rooms

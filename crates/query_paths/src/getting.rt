@@ -8,10 +8,8 @@ ghost use Rattle.query_paths.specs.Pinned.{IsPinnedTo, MakesSteps};
 ghost use Rattle.query_paths.specs.Calls.{place, LeavesPlace};
 ghost use Rattle.query_paths.specs.Paths.{IsGot, HasGetCause};
 
-use crate::Pinned;
-use crate::reading::{read_directory, read_spelled};
+use crate::{Pinned, find_bucket};
 use bucket_page::get_on;
-use directory_pages::{bucket_at, part_of};
 use disk_trait::Steps;
 use grid_types::{Data, Key, PAGE_BYTES, Refusal};
 use std::sync::ledger::Ledger;
@@ -39,12 +37,6 @@ pub fn exact<const K: usize, Q: Pinned<K>, L: Ledger>(
     ensures same { LeavesPlace Q.Pinned pinned.old pinned.new }
 {
     let _numbers = key.numbers();
-    let (part, index) = part_of(pinned.dims().index(&pinned.cell_of(key)));
-    let directory = read_directory(pinned, part, page, steps)?;
-    let number = bucket_at(page, index);
-    let (at, head) = read_spelled(pinned, number, directory, page, steps)?;
-    if !head.region.contains(key) {
-        return Err(Refusal::Damaged { page: at });
-    }
+    let head = find_bucket(pinned, key, page, steps)?;
     Ok(get_on(page, head.count as usize, key))
 }

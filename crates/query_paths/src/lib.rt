@@ -2,6 +2,7 @@
 #![tactic(auto)]
 
 mod counting;
+mod finding;
 mod gathering;
 mod getting;
 mod listing;
@@ -16,6 +17,7 @@ mod tests;
 mod walking;
 
 pub use counting::count_rows;
+pub use finding::find_bucket;
 pub use getting::exact;
 pub use listing::list_rows;
 pub use pinned::Pinned;

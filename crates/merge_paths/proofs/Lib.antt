@@ -1,0 +1,5 @@
+pub mod Sides
+pub mod Beside
+pub mod Losing
+pub mod Partners
+pub mod Found
