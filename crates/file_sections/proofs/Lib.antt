@@ -1,6 +1,6 @@
-mod Meeting
+pub mod Meeting
 mod DataPages
 mod Committing
-mod RootSteps
+pub mod RootSteps
 mod Closing
 mod Finishing

@@ -1,0 +1,9 @@
+pub mod Points
+pub mod Alone
+pub mod Standing
+pub mod Disks
+pub mod Areas
+pub mod Numbers
+pub mod Steps
+pub mod Journal
+pub mod Emptied

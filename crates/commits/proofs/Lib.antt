@@ -1,0 +1,2 @@
+pub mod OneBatch
+pub mod Outcomes
