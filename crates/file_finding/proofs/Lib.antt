@@ -1,0 +1,11 @@
+pub mod Findings
+pub mod Stood
+pub mod Pages
+pub mod Roots
+pub mod Slots
+pub mod Searches
+pub mod Taking
+pub mod Opened
+pub mod Kept
+pub mod Leading
+pub mod Finding

@@ -1,0 +1,10 @@
+pub mod Reading
+pub mod Synced
+pub mod Beginning
+pub mod Leading
+pub mod PageSteps
+pub mod Going
+pub mod Ending
+pub mod Alone
+pub mod Publishing
+pub mod Claims
