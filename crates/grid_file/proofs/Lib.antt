@@ -1,0 +1,8 @@
+pub mod Found
+pub mod Telling
+pub mod Claiming
+pub mod Books
+pub mod Keeping
+pub mod Leaving
+pub mod Standing
+pub mod Beside
