@@ -1,0 +1,5 @@
+pub mod Places
+pub mod Refusing
+pub mod Counting
+pub mod Numbers
+pub mod Planned

@@ -1,0 +1,4 @@
+pub mod Rooms
+pub mod Ready
+pub mod Plans
+pub mod Writing
