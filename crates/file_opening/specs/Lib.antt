@@ -1,0 +1,4 @@
+pub mod Refusals
+pub mod UnderWay
+pub mod Begun
+pub mod Slots
