@@ -1,0 +1,4 @@
+pub mod Decimals
+pub mod Finding
+pub mod Splitting
+pub mod Written
