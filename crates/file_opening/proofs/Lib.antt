@@ -1,6 +1,8 @@
 pub mod FoundRoot
 pub mod Refusals
 pub mod Redone
-pub mod Plans
 pub mod RedoSteps
+pub mod RedoChanges
+pub mod Redoes
 pub mod Renewed
+pub mod Reopening

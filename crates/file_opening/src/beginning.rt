@@ -8,8 +8,10 @@ ghost use Rattle.file_books.specs.Effects.{opened_books};
 ghost use Rattle.file_state.specs.Roots.{HasRoom};
 ghost use Rattle.file_images.specs.Leads.{Standing, HasStanding, updates_in};
 ghost use Rattle.recovery.specs.Surveys.{AreFewUsed, survey_pages};
-ghost use Rattle.file_opening.specs.Refusals.{IsRefusedOr, MayRefuseOpening};
-ghost use Rattle.file_opening.specs.Begun.{IsLawfulBegun};
+ghost use Rattle.file_updates.specs.Rooms.{HasRoomFor};
+ghost use Rattle.query_paths.specs.Rooms.{room_for};
+ghost use Rattle.file_opening.specs.Refusals.{IsRefusedOr, IsNoDamage, MayRefuseOpening};
+ghost use Rattle.file_opening.specs.Begun.{IsLawfulBegun, HasNoFault};
 ghost use Rattle.file_opening.specs.UnderWay.{IsUnderWay};
 
 use crate::begun::Begun;
@@ -17,17 +19,19 @@ use crate::wearing::survey_unworn;
 use disk_trait::{Disk, Steps};
 use file_sections::sync;
 use file_state::{FileState, room_for_root};
+use file_updates::UpdateRoom;
 use grid_types::Refusal;
 use linear_scales::Root;
-use recovery::Survey;
+use query_paths::Room;
+use recovery::{Survey, survey_law};
 use std::alloc::{AllocError, Global};
 use std::sync::ledger::Ledger;
 
-/// All memory that a file needs from its survey on.
+/// All memory that a file needs from its survey on: what is kept of it, and room for roots, for updates, and for counts and listings.
 fn take_memory<const K: usize>(
     alloc: Global,
     survey: &Survey<K>,
-) -> Result<(FileState<K>, Root<K>), AllocError>
+) -> Result<(FileState<K>, Root<K>, UpdateRoom<K>, Room<K>), AllocError>
     requires attributes { survey.now.geometry.shape.k ≡ K }
     requires root { IsRoot survey.now.geometry.shape survey.now.root }
     requires limits { limits_of survey.now.root.scales
@@ -37,10 +41,14 @@ fn take_memory<const K: usize>(
         ≡ opened_books survey.now.geometry.shape (whole_of survey.now.root)
         (slice_index survey.now.used 0) (slice_index survey.now.used 1)) }
     ensures room { IfOk result (λ r. HasRoom survey.now.geometry.shape r.1) }
+    ensures updates { IfOk result (λ r. HasRoomFor survey.now.geometry.shape r.2) }
+    ensures query { IfOk result (λ r. room_for r.3 ≡ survey.now.geometry.shape.pages) }
 {
     let state = FileState::open(alloc, survey.geometry, &survey.root, survey.used)?;
     let next = room_for_root(alloc, &survey.geometry)?;
-    Ok((state, next))
+    let room = UpdateRoom::new(alloc, &survey.geometry)?;
+    let query = Room::new(alloc, survey.geometry.shape.pages)?;
+    Ok((state, next, room, query))
 }
 
 /// Judges a file, takes all memory for it, and puts on the disk for good what was read.
@@ -56,14 +64,21 @@ pub(crate) fn begin<const K: usize, D: Disk, L: Ledger>(
     ensures lawful { IfOk result (IsLawfulBegun (D.extent disk.old)) }
     ensures refused { IsTrue (D.honest disk.old)
         → IfErr result (IsRefusedOr K (D.seen disk.old)) }
+    ensures sound { IsTrue (D.honest disk.old) → OnOk result (HasNoFault K (D.seen disk.old)) }
+    ensures standing { IsTrue (D.honest disk.old)
+        → (m : Standing K)
+        → HasStanding (D.seen disk.old) m
+        → IfErr result IsNoDamage }
     ensures durable { OnOk result (IsSynced D.Disk disk.new) }
     ensures changes { Changes D.Disk Stays disk.old disk.new }
     ensures untouched { OnErr result (OnlyReads D.Disk disk.old disk.new) }
     ensures causes { HasCauses D.Disk MayRefuseOpening disk.old disk.new result }
     ensures ticks { IfOk result (λ b. steps.new ≤ steps.old + survey_pages b.state.shape) }
 {
+    // What was found has no fault, and what stands none either.
+    survey_law::<K>();
     let survey = survey_unworn(alloc, disk, steps)?;
-    let Ok((state, next)) = take_memory(alloc, &survey) else {
+    let Ok((state, next, room, query)) = take_memory(alloc, &survey) else {
         return Err(Refusal::NoMemory);
     };
     let Ok(()) = sync(disk) else {
@@ -72,6 +87,8 @@ pub(crate) fn begin<const K: usize, D: Disk, L: Ledger>(
     Ok(Begun {
         state,
         next,
+        room,
+        query,
         taken: survey.taken,
     })
 }

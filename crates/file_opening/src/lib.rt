@@ -3,6 +3,13 @@
 
 mod beginning;
 mod begun;
+mod opened;
+mod opening;
+mod redo_batches;
+mod redoing;
 mod renewing;
 mod slots;
 mod wearing;
+
+pub use opened::{Opened, Unopened};
+pub use opening::open_file;

@@ -11,7 +11,7 @@ ghost use Rattle.file_state.specs.Roots.{HasRoom};
 ghost use Rattle.file_standing.specs.Open.{IsOpenAt, StaysStanding};
 ghost use Rattle.checkpoints.specs.Checkpoints.{IsRooted, checkpointed_books};
 ghost use Rattle.checkpoints.specs.Disks.{KeepsLength};
-ghost use Rattle.file_opening.specs.UnderWay.{IsRedone, IsReopened};
+ghost use Rattle.file_opening.specs.UnderWay.{IsRedone, IsReopened, IsNextSession};
 
 use checkpoints::{checkpoint, clear_journal};
 use disk_trait::{Disk, DiskFailed, Steps};
@@ -88,7 +88,7 @@ pub(crate) fn renew<const K: usize, D: Disk, L: Ledger>(
     ensures reopened { (m : Standing K)
         → IsRedone D.Disk state.old disk.old m
         → OnOk result (IsReopened D.Disk state.new disk.new m) }
-    ensures shape { OnOk result (state.new.shape ≡ state.old.shape) }
+    ensures rises { OnOk result (IsNextSession state.old state.new) }
     ensures room { OnOk result (HasRoom state.old.shape next.new) }
     ensures durable { OnOk result (IsSynced D.Disk disk.new) }
     ensures changes { Changes D.Disk KeepsLength disk.old disk.new }

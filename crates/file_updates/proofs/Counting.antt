@@ -1,13 +1,12 @@
 -- The new pages of a plan: they are those of its update, as many as were claimed, and may be published.
-use Rattle.std.proofs.Common.{◌≡◌, ◌≤◌, ◌<◌, ◌+◌, ◌++◌, ℕ, Bool, false, List, [], length, map, IsTrue, refl, sym, ap, ◌∙◌, subst, arith, length-append}
-use Rattle.std.specs.Prelude.{◌/◌, Result, Ok, Err, OnOk, IfErr}
+use Rattle.std.proofs.Common.{◌≡◌, ◌≤◌, ◌<◌, ◌+◌, ◌++◌, ℕ, List, [], length, map, ap, ◌∙◌, subst, arith, length-append}
+use Rattle.std.specs.Prelude.{◌/◌, Result, OnOk}
 use Rattle.std.specs.List.{count_by}
 use Rattle.std.proofs.lemmas.List.{length-map}
 use Rattle.std.proofs.lemmas.List.Sums.{count_by-le-length}
 use Rattle.std.proofs.lemmas.List.FromFn.{length-range_with_len}
 use Rattle.grid_types.specs.declared.layout_change.LayoutChange.{LayoutChange}
 use Rattle.grid_types.specs.declared.layout_change.LayoutChange.TheVariants as note
-use Rattle.grid_types.specs.declared.owner.Owner.{Owner}
 use Rattle.grid_types.specs.declared.owner.Owner.TheVariants.{Bucket, Part}
 use Rattle.grid_types.specs.declared.update.Update.{Update}
 use Rattle.grid_types.proofs.Places.{within-limits}
@@ -20,7 +19,7 @@ use Rattle.directory_changes.specs.Changes.{grown, parts_changed, IsChangeOf}
 use Rattle.directory_changes.specs.declared.change.DirectoryChange.{DirectoryChange}
 use Rattle.directory_changes.specs.declared.change.DirectoryChange.TheVariants.{Nothing, Patch, Grow}
 use Rattle.directory_changes.proofs.Counted.{few-parts}
-use Rattle.file_books.specs.Books.{Books, AreBooksOf, has_page}
+use Rattle.file_books.specs.Books.{Books, AreBooksOf}
 use Rattle.file_books.specs.Effects.{HasOther, IsPublishable}
 use Rattle.grid_file.specs.Files.{OpenFile, IsOpenFile, client, with_claim}
 use Rattle.grid_file.proofs.Books.{claim_sound, claim_count}

@@ -1,12 +1,11 @@
 -- The bucket numbers of the books and those of a layout that has the pages of the front.
-use Rattle.std.proofs.Common.{◌≡◌, ◌≢◌, ◌<◌, ◌≤◌, ◌⊎◌, inl, inr, ℕ, Bool, true, false, List, map, Option, Some, None, is_some, IsTrue, refl, sym, ap, ◌∙◌, arith, true≢false}
+use Rattle.std.proofs.Common.{◌≡◌, ◌≢◌, ◌<◌, ◌≤◌, ◌⊎◌, inl, inr, ℕ, true, false, List, Option, Some, None, is_some, refl, sym, ap, ◌∙◌, arith, true≢false}
 use Rattle.std.proofs.lemmas.Bool.{cases_lt, cases_eq}
 use Rattle.grid_types.specs.declared.owner.Owner.TheVariants.{Bucket}
 use Rattle.disk_trait.specs.declared.disk.Disk.{Ghosts}
 use Rattle.grid_model.specs.Layouts.{BucketBox, Layout, box, unused}
 use Rattle.grid_model.specs.Lists.{is_among}
 use Rattle.grid_model.specs.Tables.{Table}
-use Rattle.grid_model.proofs.Boxes.{some-not-none}
 use Rattle.grid_model.proofs.LeastUnused.{least-unused}
 use Rattle.history_pages.proofs.Numbers.{found-where}
 use Rattle.query_paths.specs.Pinned.{IsPinnedTo}

@@ -1,5 +1,5 @@
 -- Claims and what is given back leave the place at which a file is read.
-use Rattle.std.proofs.Common.{◌≡◌, ◌≤◌, ℕ, Bool, true, false, cond, List, [], ◌∷◌, Option, Some, None, is_some, filter, take, refl, sym, ap, ◌∙◌, true≢false}
+use Rattle.std.proofs.Common.{◌≡◌, ◌≤◌, ℕ, Bool, true, false, cond, List, [], ◌∷◌, Option, Some, None, is_some, filter, refl, sym, ap, ◌∙◌, true≢false}
 use Rattle.std.specs.Prelude.{slice_get}
 use Rattle.std.specs.Option.{option_map, unwrap_or}
 use Rattle.std.specs.List.{count_by, list_any}
@@ -11,7 +11,6 @@ use Rattle.grid_types.specs.Shapes.{data_page}
 use Rattle.grid_model.specs.Lists.{below}
 use Rattle.disk_trait.specs.declared.disk.Disk.{Ghosts}
 use Rattle.page_states.specs.declared.page_state.PageState.{PageState}
-use Rattle.page_states.specs.Counts.{once}
 use Rattle.page_states.specs.Laws.{Serves, Keeps}
 use Rattle.page_states.specs.States.{shows}
 use Rattle.page_states.proofs.ClaimedPages.{claim_keeps_places}

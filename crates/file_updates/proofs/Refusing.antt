@@ -1,5 +1,5 @@
 -- Why new pages are not written, as a file tells it.
-use Rattle.std.proofs.Common.{◌≡◌, ◌<◌, ◌*◌, ℕ, List, refl, sym, ap, ◌∙◌, subst}
+use Rattle.std.proofs.Common.{◌≡◌, ◌<◌, ◌*◌, ℕ, List, sym, ap, ◌∙◌, subst}
 use Rattle.std.specs.Prelude.{Result, Ok, Err, IfErr}
 use Rattle.grid_types.specs.declared.owner.Owner.TheVariants.{Part}
 use Rattle.grid_types.specs.declared.refusal.Refusal.{Refusal}
@@ -16,7 +16,7 @@ use Rattle.grid_file.specs.Files.{OpenFile, IsOpenFile, with_claim, without_clai
 use Rattle.grid_file.specs.Pages.{file_page}
 use Rattle.query_paths.specs.Pinned.{Place}
 use Rattle.file_updates.proofs.Places.{claim_place}
-use Rattle.file_updates.specs.Writing.{IsDamagedPart, IsWriteRefusal}
+use Rattle.file_updates.specs.Writing.{IsWriteRefusal}
 
 -- the members of a file as pages of a change, as far as refusals speak of them
 pub record TellsOf {D : Type 0} (g : Ghosts D) (p : pages.Ghosts (OpenFile D)) : Type 0 where

@@ -4,10 +4,12 @@
 mod change;
 mod found;
 mod logged;
+mod planning;
 mod room;
 mod writing;
 
 pub use change::change_of;
 pub use logged::plan_logged;
+pub use planning::{Outcome, plan_update};
 pub use room::UpdateRoom;
 pub use writing::write_update;

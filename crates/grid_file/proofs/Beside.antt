@@ -1,6 +1,6 @@
 -- What the writing of a change comes to beside pages that are fresh already.
-use Rattle.std.proofs.Common.{◌≡◌, ◌<◌, ℕ, Bool, true, false, List, length, Option, Some, None, is_some, refl, sym, ap, ◌∙◌, subst, arith, inl, true≢false}
-use Rattle.std.specs.Prelude.{slice_get, slice_index, slice_index_or, Contains}
+use Rattle.std.proofs.Common.{◌≡◌, ◌<◌, ℕ, Bool, true, List, length, Option, Some, None, is_some, refl, sym, ap, ◌∙◌, subst, arith, inl, true≢false}
+use Rattle.std.specs.Prelude.{slice_get, slice_index_or, Contains}
 use Rattle.std.specs.Option.{option_map}
 use Rattle.std.proofs.lemmas.Option.{slice_get-map, slice_get_within}
 use Rattle.grid_types.specs.declared.layout_change.LoggedUpdate.{LoggedUpdate}
@@ -22,10 +22,9 @@ use Rattle.file_books.specs.Books.{Books}
 use Rattle.file_standing.specs.Open.{StaysStanding}
 use Rattle.file_standing.specs.Steps.{with_fresh}
 use Rattle.file_redo.specs.Redoing.{newer, as_read, IsRedoing}
-use Rattle.file_redo.specs.RedoLaws.{AreSameBut}
 use Rattle.file_redo.proofs.Leading.{redo-leads}
-use Rattle.file_redo.proofs.Reading.{Pages, index-there, read-at}
-use Rattle.grid_file.specs.Files.{OpenFile, IsOpenFile, AreClaimedBy, client}
+use Rattle.file_redo.proofs.Reading.{index-there, read-at}
+use Rattle.grid_file.specs.Files.{OpenFile, IsOpenFile, client}
 use Rattle.grid_file.specs.Keeping.{ClaimedAreUnkept, HoldsWritten, KeepsFile}
 use Rattle.grid_file.specs.RedoLaws.{IsBegunBeside, IsWrittenBeside, WritingGoesOn}
 use Rattle.grid_file.proofs.Standing.{index_of, claimed_entry}

@@ -6,3 +6,5 @@ pub mod Keeping
 pub mod Leaving
 pub mod Standing
 pub mod Beside
+pub mod Alike
+pub mod Doubts

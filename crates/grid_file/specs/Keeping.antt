@@ -10,10 +10,11 @@ use Rattle.file_images.specs.Kept.{Kept}
 use Rattle.file_images.specs.Meets.{Meets}
 use Rattle.file_sections.specs.Sections.{StaysShown}
 use Rattle.page_states.specs.declared.page_state.PageState.TheVariants.{Claimed}
-use Rattle.file_books.specs.Books.{Books}
+use Rattle.file_books.specs.Books.{Books, has_page}
 use Rattle.file_standing.specs.Steps.{with_fresh}
 use Rattle.file_redo.specs.RedoLaws.{AreSameBut}
 use Rattle.grid_file.specs.Files.{OpenFile, client}
+use Rattle.grid_file.specs.Pages.{page_here}
 
 -- a reading leaves an open file as it was but for its disk, which it only reads: what the disk met it meets, and at each moment a crash leaves an image that shows it
 pub record ReadsFile (K : ℕ) {D : Type 0} (g : Ghosts D) (old new : OpenFile D) : Type 0 where
@@ -55,3 +56,14 @@ pub record KeepsFile (K : ℕ) {D : Type 0} (g : Ghosts D) (old new : OpenFile D
   pub disk : Changes g (DiffersOn old.books.shape old.claimed) old.disk new.disk
   pub kept : (k : Kept K) → ClaimedAreUnkept k old.books → HoldsWritten g k old → HoldsWritten g k new
   pub moments : (k : Kept K) → ClaimedAreUnkept k old.books → HoldsWritten g k old → StaysShown g k old.disk new.disk
+
+-- other books of a file read as these: shape, session, front, scales, and the numbers of records and of buckets are the same, the same owners have a page at the front, and each has the same one
+pub record KeepsReading (old new : Books) : Type 0 where
+  pub shape : new.shape ≡ old.shape
+  pub session : new.session ≡ old.session
+  pub front : new.front ≡ old.front
+  pub records : new.records ≡ old.records
+  pub buckets : new.buckets ≡ old.buckets
+  pub scales : new.scales ≡ old.scales
+  pub pages : (o : Owner) → has_page new o ≡ has_page old o
+  pub here : (o : Owner) → page_here new o ≡ page_here old o

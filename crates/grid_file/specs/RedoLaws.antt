@@ -1,5 +1,5 @@
 -- What is promised of an open file whose journal is being redone: what readings give, and what the writing of a change comes to beside pages that are fresh already.
-use Rattle.std.specs.Prelude.{◌≡◌, ℕ, List, [], ◌∷◌, length, Option, Some, IsTrue}
+use Rattle.std.specs.Prelude.{◌≡◌, ℕ, List, [], length, Option, Some, IsTrue}
 use Rattle.grid_types.specs.declared.layout_change.LoggedUpdate.{LoggedUpdate}
 use Rattle.grid_types.specs.declared.owner.Owner.{Owner}
 use Rattle.disk_trait.specs.declared.disk.Disk.{Ghosts}

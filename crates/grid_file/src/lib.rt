@@ -3,6 +3,7 @@
 
 mod claimed;
 mod file;
+mod lasting;
 mod laws;
 mod reading;
 mod steps;

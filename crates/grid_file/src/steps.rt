@@ -3,6 +3,7 @@ ghost use Rattle.std.specs.Prelude.{◌≡◌, ◌<◌, ◌^◌};
 ghost use Rattle.file_books.specs.Effects.{published_books, session_books, swept_books, IsPublishable};
 ghost use Rattle.file_state.specs.Memories.{publishing_of};
 ghost use Rattle.grid_file.specs.Files.{opened_file};
+ghost use Rattle.grid_file.specs.Keeping.{KeepsReading};
 
 use crate::claimed::Claimed;
 use crate::file::GridFile;
@@ -14,7 +15,8 @@ use std::marker::Brand;
 impl<const K: usize, D: Disk> GridFile<K, D> {
     /// Frees the replaced pages that no root needs.
     pub fn sweep(&mut self)
-        ensures { self.new ≡ record self.old { books = swept_books self.old.books } }
+        ensures value { self.new ≡ record self.old { books = swept_books self.old.books } }
+        ensures reading { KeepsReading self.old.books self.new.books }
     {
         self.state.sweep();
         let _geometry = self.state.geometry();

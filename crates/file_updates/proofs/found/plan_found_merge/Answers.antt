@@ -1,11 +1,10 @@
-use Rattle.std.proofs.Common.{◌≡◌, ◌≢◌, ◌∙◌, ℕ, List, [], IfSome, refl, sym, ap, subst}
+use Rattle.std.proofs.Common.{◌≡◌, ◌∙◌, ℕ, List, [], IfSome, sym, subst}
 use Rattle.grid_types.specs.declared.layout_change.LayoutChange.TheVariants as note
 use Rattle.grid_types.specs.declared.shape.Shape.{Shape}
 use Rattle.grid_types.specs.declared.update.Update.TheVariants.{Remove}
 use Rattle.bucket_page.specs.OnPage.{head_told}
 use Rattle.change_plans.specs.Plans.{IsPageOf, IsPageBeside}
 use Rattle.history_pages.specs.PageLaws.{IsChange}
-use Rattle.linear_scales.specs.Limited.{scales_of}
 use Rattle.merge_paths.proofs.Found.{page-found}
 use Rattle.update_plans.specs.Plans.{IsPlanOf, IsSoundPlan}
 use Rattle.file_updates.proofs.Planned.{planned_noted, merge_joins, noted_of, ready_if}

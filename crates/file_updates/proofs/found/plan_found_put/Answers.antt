@@ -1,5 +1,4 @@
-use Rattle.std.proofs.Common.{◌≡◌, ◌∙◌, ℕ, List, Some, None, IsTrue, refl, sym, ap, subst}
-use Rattle.grid_types.specs.declared.owner.Owner.TheVariants.{Bucket}
+use Rattle.std.proofs.Common.{◌≡◌, ◌∙◌, ℕ, List, Some, None, refl, sym, ap, subst}
 use Rattle.grid_types.specs.declared.shape.Shape.{Shape}
 use Rattle.grid_types.specs.declared.update.Update.TheVariants.{Put}
 use Rattle.grid_model.specs.Notes.{put_note}

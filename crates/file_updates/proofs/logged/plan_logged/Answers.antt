@@ -1,6 +1,5 @@
-use Rattle.std.proofs.Common.{◌≡◌, ◌∙◌, ℕ, List, Option, Some, None, IfSome, refl, sym, ap, subst, arith}
-use Rattle.std.specs.Prelude.{Result, IfOk, OnOk}
-use Rattle.grid_types.specs.declared.refusal.Refusal.{Refusal}
+use Rattle.std.proofs.Common.{◌≡◌, ◌∙◌, ℕ, List, Some, None, IfSome, sym, ap, subst, arith}
+use Rattle.std.specs.Prelude.{IfOk}
 use Rattle.grid_types.specs.declared.shape.Shape.{Shape}
 use Rattle.grid_types.specs.declared.update.Update.{Update}
 use Rattle.grid_types.specs.declared.update.Update.TheVariants.{Put, Remove}
@@ -14,7 +13,6 @@ use Rattle.query_paths.specs.Finding.{IsBoxFound}
 use Rattle.file_books.specs.Books.{Books}
 use Rattle.grid_file.specs.CallLaws.{reads_on}
 use Rattle.grid_file.specs.Pages.{front_place}
-use Rattle.update_plans.specs.declared.plan.Plan.{Plan}
 use Rattle.update_plans.specs.Plans.{IsPlanOf}
 use Rattle.file_updates.specs.Plans.{IsPlannedAs}
 use Rattle.file_updates.specs.Ready.{IsReadyPlan}

@@ -1,8 +1,7 @@
-use Rattle.std.proofs.Common.{◌≡◌, ◌∙◌, ℕ, List, Option, Some, IfSome, IsTrue, true, is_some, refl, sym, ap, subst, true≢false}
+use Rattle.std.proofs.Common.{◌≡◌, ◌∙◌, ℕ, Some, IfSome, true, is_some, sym, ap, subst, true≢false}
 use Rattle.grid_types.specs.declared.layout_change.LayoutChange.TheVariants as note
 use Rattle.grid_types.specs.declared.owner.Owner.TheVariants.{Bucket}
 use Rattle.grid_types.specs.declared.update.Update.TheVariants.{Remove}
-use Rattle.grid_model.specs.Layouts.{BucketBox}
 use Rattle.bucket_page.specs.declared.head.Head.{Head}
 use Rattle.bucket_page.specs.OnPage.{head_told}
 use Rattle.change_plans.specs.Plans.{IsPageBeside}

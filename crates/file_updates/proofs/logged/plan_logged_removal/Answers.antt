@@ -1,4 +1,4 @@
-use Rattle.std.proofs.Common.{◌≡◌, ◌∙◌, ℕ, [], refl, sym, ap, subst}
+use Rattle.std.proofs.Common.{◌≡◌, ◌∙◌, ℕ, [], sym, ap, subst}
 use Rattle.std.specs.Prelude.{IfOk}
 use Rattle.grid_types.specs.declared.layout_change.LayoutChange.{LayoutChange}
 use Rattle.grid_types.specs.declared.layout_change.LayoutChange.TheVariants as note
@@ -8,7 +8,7 @@ use Rattle.bucket_page.specs.declared.head.Head.{Head}
 use Rattle.bucket_page.specs.OnPage.{head_told}
 use Rattle.history_pages.specs.PageLaws.{IsChange}
 use Rattle.query_paths.specs.Finding.{IsBoxFound}
-use Rattle.file_books.specs.Books.{Books, AreBooksOf, has_page}
+use Rattle.file_books.specs.Books.{has_page}
 use Rattle.grid_file.specs.CallLaws.{reads_none}
 use Rattle.file_updates.specs.Plans.{IsPlannedAs}
 use Rattle.file_updates.proofs.Numbers.{among_books}

@@ -1,13 +1,12 @@
 use Rattle.std.proofs.Common.{◌≡◌, ℕ, List, [], ◌∷◌, refl, sym, ap, ◌∙◌}
 use Rattle.grid_types.specs.declared.layout_change.LayoutChange.{LayoutChange}
 use Rattle.grid_types.specs.declared.layout_change.LayoutChange.TheVariants as note
-use Rattle.grid_types.specs.declared.owner.Owner.{Owner}
 use Rattle.grid_types.specs.declared.owner.Owner.TheVariants.{Bucket}
 use Rattle.grid_model.specs.Cells.{dims}
 use Rattle.history_pages.specs.NewPages.{new_pages}
 use Rattle.history_pages.specs.OwnerPages.{owner_page}
 use Rattle.update_plans.specs.Plans.{in_buffers}
-use Rattle.file_updates.proofs.Refusing.{TellsOf, refusal_told}
+use Rattle.file_updates.proofs.Refusing.{refusal_told}
 use Rattle.file_updates.proofs.Counting.{first_written}
 use Rattle.file_updates.proofs.writing.write_pages.Goals as goal
 

@@ -1,14 +1,12 @@
-use Rattle.std.proofs.Common.{◌≡◌, ◌+◌, ℕ, List, refl, sym, ap, ◌∙◌, subst, length, arith}
-use Rattle.std.specs.Prelude.{IfErr}
-use Rattle.grid_types.specs.declared.shape.Shape.{Shape}
+use Rattle.std.proofs.Common.{◌≡◌, ℕ, List, sym, ap, ◌∙◌, subst, length, arith}
 use Rattle.query_paths.specs.Pinned.{Place, IsPinnedTo}
 use Rattle.file_books.specs.Books.{Books}
 use Rattle.file_books.specs.Effects.{IsPublishable}
 use Rattle.update_plans.specs.Plans.{IsPlanOf}
-use Rattle.grid_file.specs.Files.{OpenFile, with_claim}
+use Rattle.grid_file.specs.Files.{OpenFile}
 use Rattle.grid_file.specs.Keeping.{KeepsFile}
 use Rattle.grid_file.specs.Pages.{front_place}
-use Rattle.file_updates.specs.Writing.{publishing_by, IsWriteRefusal}
+use Rattle.file_updates.specs.Writing.{publishing_by}
 use Rattle.file_updates.proofs.Places.{claim_place}
 use Rattle.file_updates.proofs.Refusing.{refusal_claimed}
 use Rattle.file_updates.proofs.Counting.{few_pages, publishable_claimed}

@@ -1,4 +1,4 @@
-use Rattle.std.proofs.Common.{ℕ, List, ◌≡◌, ap, ◌∙◌, arith, replicate}
+use Rattle.std.proofs.Common.{List, ap, ◌∙◌, arith}
 use Rattle.grid_types.proofs.Places.{within-limits}
 use Rattle.linear_scales.specs.Limited.{LimitedScale, limits_of}
 use Rattle.file_state.proofs.Scaling.{limits_there}

@@ -1,0 +1,6 @@
+pub mod Joining
+pub mod Placing
+pub mod Speaking
+pub mod Stepping
+pub mod Making
+pub mod Explaining
