@@ -1,7 +1,7 @@
 -- Plans of updates whose buckets were found: over a layout and a table, and whatever the pages say.
 use Rattle.std.specs.Prelude.{⊤, ◌≤◌, Result, Ok, Err, IfErr, slice_index_or}
 use Rattle.std.specs.Option.{option_map_or}
-use Rattle.std.proofs.Common.{◌≡◌, ◌≢◌, ◌<◌, ◌&&◌, ◌⊎◌, inl, inr, ℕ, zero, suc, Bool, true, false, List, [], ◌∷◌, length, map, Option, Some, None, is_some, IsSome, IfSome, IsTrue, Contains, refl, sym, ap, ◌∙◌, subst, true≢false, arith}
+use Rattle.std.proofs.Common.{◌≡◌, ◌≢◌, ◌<◌, ◌^◌, ◌&&◌, ◌⊎◌, inl, inr, ℕ, zero, suc, Bool, true, false, List, [], ◌∷◌, length, map, Option, Some, None, is_some, IsSome, IfSome, IsTrue, Contains, refl, sym, ap, ◌∙◌, subst, true≢false, arith}
 use Rattle.grid_types.specs.declared.key.Key.{Key}
 use Rattle.grid_types.specs.declared.layout_change.Cut.{Cut}
 use Rattle.grid_types.specs.declared.layout_change.LayoutChange.{LayoutChange}
@@ -15,6 +15,7 @@ use Rattle.grid_types.specs.declared.update.Record.{Record}
 use Rattle.grid_types.specs.declared.update.Update.{Update}
 use Rattle.grid_types.specs.declared.update.Update.TheVariants.{Put, Remove}
 use Rattle.disk_trait.specs.Causes.{Rose}
+use Rattle.grid_model.specs.Lawful.{StandsWith}
 use Rattle.grid_model.specs.Layouts.{BucketBox, Layout, box, holder}
 use Rattle.grid_model.specs.Neighbours.{can_join, partners}
 use Rattle.grid_model.specs.Notes.{merges, merges_at, put_note, IsLawfulNote}
@@ -168,7 +169,13 @@ read_refusal K p before mid now key bytes (Ok x) low is rose = _
 read_refusal K p before mid now key bytes (Err e) low is rose = subst (IsGetRefusal K p before now key bytes) (sym is) (omega (arith, low, rose))
 
 -- the right part of a put's cut has a number that is unused
-pub put_other : (b : Books) (bucket n : ℕ) (m : LayoutChange) → IsLeastUnused b n → IsPutNote n m → HasOther b bucket m
-put_other b bucket n note.Plain least is = _
-put_other b bucket n (note.Cut c right) least is = subst (λ (x : ℕ). (x < b.shape.pages) × (has_page b (Bucket x) ≡ false)) (sym is) (least.within, least.unused)
-put_other b bucket n (note.Merge m) least is = absurd is
+pub put_other : (K : ℕ) (b : Books) (bucket n : ℕ) (m : LayoutChange) → IsLeastUnused b n → IsPutNote K n m → HasOther b bucket m
+put_other K b bucket n note.Plain least is = _
+put_other K b bucket n (note.Cut c right) least is = subst (λ (x : ℕ). (x < b.shape.pages) × (has_page b (Bucket x) ≡ false)) (sym is.2) (least.within, least.unused)
+put_other K b bucket n (note.Merge m) least is = absurd is
+
+-- and its note stands with the put
+pub put_fits : {K : ℕ} (r : Record K) (n : ℕ) (m : LayoutChange) → n < 2 ^ 32 → IsPutNote K n m → StandsWith (Put r) m
+put_fits r n note.Plain small is = _
+put_fits r n (note.Cut c right) small is = (is.0, is.1, omega (arith, small, is.2))
+put_fits r n (note.Merge m) small is = absurd is

@@ -7,6 +7,7 @@ ghost use Rattle.grid_types.specs.declared.shape.Shape.{Shape};
 ghost use Rattle.grid_types.specs.declared.sizes.TheConstants.{MOST_ATTRIBUTES};
 ghost use Rattle.grid_types.specs.declared.update.Update.TheVariants.{Put, Remove};
 ghost use Rattle.grid_model.specs.Cells.{cells};
+ghost use Rattle.grid_model.specs.Lawful.{StandsWith};
 ghost use Rattle.grid_model.specs.Layouts.{BucketBox, Layout};
 ghost use Rattle.grid_model.specs.Lone.{boundaries};
 ghost use Rattle.grid_model.specs.Notes.{put_note, updated_key};
@@ -76,7 +77,8 @@ pub fn plan_found_put<const K: usize, D: Disk>(
         → IsPinnedTo (front_place D.Disk file.old) L t
         → IsBoxFound file.old.books.shape L t row.now.key.numbers e
         room.old.found.value (head_told K room.old.found.value)
-        → IfOk result (λ p. put_note file.old.books.shape L t row.now.key.numbers ≡ Some p.note) }
+        → IfOk result (λ p.
+        put_note file.old.books.shape L t row.now.key.numbers ≡ Some p.note) }
     ensures refused { (L : Layout K) (t : Table) (e : ℕ × BucketBox K)
         → IsPinnedTo (front_place D.Disk file.old) L t
         → IsBoxFound file.old.books.shape L t row.now.key.numbers e
@@ -86,6 +88,7 @@ pub fn plan_found_put<const K: usize, D: Disk>(
         ≡ refusal.NoCut (cells file.old.books.scales) (boundaries file.old.books.scales)) }
     ensures bucket { IfOk result (λ p. p.bucket ≡ (head_told K room.old.found.value).number) }
     ensures ready { IfOk result (IsReadyPlan file.old.books (Put row.now)) }
+    ensures fits { IfOk result (λ p. StandsWith (Put row.now) p.note) }
     ensures file { file.new ≡ file.old }
     ensures found { room.new.found ≡ room.old.found }
     ensures room { HasRoomFor file.old.books.shape room.new }
@@ -124,6 +127,7 @@ pub fn plan_found_removal<const K: usize>(key: &Key<K>, room: &mut UpdateRoom<K>
         → IfSome result (IsPlanOf shape L t (Remove key.now) e
         room.new.first.value room.new.second.value) }
     ensures note { IfSome result (λ p. p.note ≡ note.Plain) }
+    ensures fits { IfSome result (λ p. StandsWith (Remove key.now) p.note) }
     ensures ready { (b : Books)
         → AreBooksOf K b
         → IsTrue (has_page b (Bucket (head_told K room.old.found.value).number))
@@ -152,6 +156,7 @@ pub fn plan_found_merge<const K: usize>(
         → IsPlannedAs state.now.shape L t (Remove key.now) e (note.Merge with)
         room.new.first.value room.new.second.value result }
     ensures note { IfSome result (λ p. p.note ≡ note.Merge with) }
+    ensures fits { IfSome result (λ p. StandsWith (Remove key.now) p.note) }
     ensures ready { IsTrue (has_page state.now (Bucket (head_told K room.old.found.value).number))
         → IsTrue (has_page state.now (Bucket with))
         → with ≢ (head_told K room.old.found.value).number

@@ -5,6 +5,7 @@ ghost use Rattle.grid_types.specs.declared.refusal.Refusal.TheVariants.{ReadFaul
 ghost use Rattle.grid_types.specs.declared.shape.Shape.{Shape};
 ghost use Rattle.grid_types.specs.declared.sizes.TheConstants.{MOST_ATTRIBUTES, MOST_RECORDS};
 ghost use Rattle.grid_types.specs.declared.update.Update.TheVariants.{Remove};
+ghost use Rattle.grid_model.specs.Lawful.{StandsWith};
 ghost use Rattle.grid_model.specs.Layouts.{BucketBox, Layout, holder};
 ghost use Rattle.grid_model.specs.Notes.{updated_key};
 ghost use Rattle.grid_model.specs.Tables.{Table, get};
@@ -83,6 +84,7 @@ fn plan_first_merge<const K: usize, D: Disk, L: Ledger>(
         (count_by is_free file.old.books.pages) L t key.now e
         room.new.first.value room.new.second.value) }
     ensures ready { IfOk result (λ o. IfSome o (IsReadyPlan file.old.books (Remove key.now))) }
+    ensures fits { IfOk result (λ o. IfSome o (λ p. StandsWith (Remove key.now) p.note)) }
     ensures honest { (L : Layout K) (t : Table)
         → IsPinnedTo (front_place D.Disk file.old) L t
         → IfErr result (λ r. r ≡ ReadFault) }
@@ -122,6 +124,7 @@ fn plan_update_removal<const K: usize, D: Disk, L: Ledger>(
         (count_by is_free file.old.books.pages) L t e (Remove key.now)
         room.new.first.value room.new.second.value) }
     ensures ready { IfOk result (IfChange (IsReadyPlan file.old.books (Remove key.now))) }
+    ensures fits { IfOk result (IfChange (λ p. StandsWith (Remove key.now) p.note)) }
     ensures honest { (L : Layout K) (t : Table)
         → IsPinnedTo (front_place D.Disk file.old) L t
         → IfErr result (λ r. r ≡ ReadFault) }
@@ -164,6 +167,7 @@ pub fn plan_update<const K: usize, D: Disk, L: Ledger>(
         (count_by is_free file.old.books.pages) L t e update.now
         room.new.first.value room.new.second.value) }
     ensures ready { IfOk result (IfChange (IsReadyPlan file.old.books update.now)) }
+    ensures fits { IfOk result (IfChange (λ p. StandsWith update.now p.note)) }
     ensures honest { (L : Layout K) (t : Table) (e : ℕ × BucketBox K)
         → IsPinnedTo (front_place D.Disk file.old) L t
         → holder L (updated_key update.now) ≡ Some e

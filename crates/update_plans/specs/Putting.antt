@@ -1,5 +1,5 @@
 -- What comes of a record that is to be put.
-use Rattle.std.specs.Prelude.{◌≡◌, ℕ, Bool, false, List, Option, Some, None, is_some, if◌then◌else◌, IsTrue, ⊤}
+use Rattle.std.specs.Prelude.{◌≡◌, ◌<◌, ◌^◌, ℕ, Bool, false, List, Option, Some, None, is_some, if◌then◌else◌, IsTrue, ⊤}
 use Rattle.grid_types.specs.declared.layout_change.LayoutChange.{LayoutChange}
 use Rattle.grid_types.specs.declared.layout_change.LayoutChange.TheVariants as note
 use Rattle.grid_types.specs.Regions.{contains}
@@ -39,11 +39,11 @@ note_planned (planned.Plan p) = Some p.note
 note_planned (planned.NoCut cells boundaries) = None
 note_planned planned.NoBucket = None
 
--- the note of a put is plain, or a cut whose right part has this number
-abbrev pub IsPutNote : ℕ → LayoutChange → Type 0
-IsPutNote n note.Plain = ⊤
-IsPutNote n (note.Cut c right) = right ≡ n
-IsPutNote n (note.Merge m) = ⊥
+-- the note of a put is plain, or a cut of one of K attributes at a value of 64 bits, whose right part has this number
+abbrev pub IsPutNote : (K n : ℕ) → LayoutChange → Type 0
+IsPutNote K n note.Plain = ⊤
+IsPutNote K n (note.Cut c right) = (c.attribute < K) × (c.value < 2 ^ 64) × (right ≡ n)
+IsPutNote K n (note.Merge m) = ⊥
 
 -- bytes spell no bucket whose region has a key
 abbrev pub HasNoBucketOf : ℕ → ℕ → List ℕ → List ℕ → Type 0

@@ -20,7 +20,8 @@ pub fn pages_of<const K: usize>(
     requires few { buckets ≤ 2 }
     requires dims { IsDims (dims (scales_of scales.now)) }
     requires change { IsChangeOf (dims (scales_of scales.now)) directory.now }
-    ensures value { result ≡ buckets + length (parts_changed (dims (scales_of scales.now)) directory.now) }
+    ensures value { result
+        ≡ buckets + length (parts_changed (dims (scales_of scales.now)) directory.now) }
     ensures some { result ≤ 1002 }
 {
     let dims = Dims {

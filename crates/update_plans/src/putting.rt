@@ -141,7 +141,7 @@ fn plan_cut<const K: usize>(
         → CutsByLayout cuts.cut L (scales_of scales.now) unused
         → IfSome result (IsPlanOf shape.now L t (Put row.now) e first.new second.new) }
     ensures number { IfSome result (λ p. p.bucket ≡ head.now.number) }
-    ensures right { IfSome result (λ p. IsPutNote unused p.note) }
+    ensures right { IfSome result (λ p. IsPutNote K unused p.note) }
     ensures sound { IfSome result
         (IsSoundPlan shape.now (scales_of scales.now) (Put row.now)) }
     ensures refined { IfSome result (λ p. IsTrue (is_refinement p.note)
@@ -219,7 +219,7 @@ pub fn plan_put<const K: usize>(
     ensures cells { IfNoCut result (λ n m. n ≡ cells (scales_of scales.now)) }
     ensures boundaries { IfNoCut result (λ n m. m ≡ boundaries (scales_of scales.now)) }
     ensures number { IfPlan result (λ p. p.bucket ≡ (head_told K from.now).number) }
-    ensures right { IfPlan result (λ p. IsPutNote unused p.note) }
+    ensures right { IfPlan result (λ p. IsPutNote K unused p.note) }
     ensures sound { IfPlan result
         (IsSoundPlan shape.now (scales_of scales.now) (Put row.now)) }
     ensures refined { IfPlan result (λ p. IsTrue (is_refinement p.note)

@@ -1,4 +1,4 @@
-use Rattle.std.proofs.Common.{◌≡◌, ◌∙◌, ℕ, List, Some, None, refl, sym, ap, subst}
+use Rattle.std.proofs.Common.{arith, ◌≡◌, ◌∙◌, ℕ, List, Some, None, refl, sym, ap, subst}
 use Rattle.grid_types.specs.declared.shape.Shape.{Shape}
 use Rattle.grid_types.specs.declared.update.Update.TheVariants.{Put}
 use Rattle.grid_model.specs.Notes.{put_note}
@@ -9,7 +9,7 @@ use Rattle.file_books.specs.Books.{Books, OwnersHavePages}
 use Rattle.grid_file.specs.Files.{OpenFile}
 use Rattle.update_plans.specs.Plans.{IsPlanOf, IsSoundPlan}
 use Rattle.file_updates.proofs.Numbers.{among_books, unused_is}
-use Rattle.file_updates.proofs.Planned.{put_other, ready_by}
+use Rattle.file_updates.proofs.Planned.{put_fits, put_other, ready_by}
 use Rattle.file_updates.proofs.found.plan_found_put.Goals as goal
 
 pub returns-in-Plan-clause-plan : goal.returns-in-Plan-clause-plan
@@ -63,4 +63,7 @@ returns-in-Plan-clause-ready g c =
     ready_by {K = g.row.K} f.books (Put c.args.row.now) c.in-Plan.plan head.number c.in-Plan.plan.note sound
     (c.in-Plan.ensures.number ∙ ap (λ (bytes : List ℕ). (head_told g.row.K bytes).number) c.deref.ensures) refl
     (sym (among_books f.books owners head.number) ∙ c.requires.found.among)
-    (put_other f.books head.number c.least_unused-unused.result c.in-Plan.plan.note c.least_unused-unused.ensures.least c.in-Plan.ensures.right)
+    (put_other g.row.K f.books head.number c.least_unused-unused.result c.in-Plan.plan.note c.least_unused-unused.ensures.least c.in-Plan.ensures.right)
+
+pub returns-in-Plan-clause-fits : goal.returns-in-Plan-clause-fits
+returns-in-Plan-clause-fits g c = put_fits c.args.row.now c.least_unused-unused.result c.in-Plan.plan.note (omega arith) c.in-Plan.ensures.right
