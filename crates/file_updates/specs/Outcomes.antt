@@ -11,6 +11,7 @@ use Rattle.grid_types.specs.declared.update.Update.{Update}
 use Rattle.grid_types.specs.declared.update.Update.TheVariants.{Put, Remove}
 use Rattle.disk_trait.specs.Causes.{Rose}
 use Rattle.grid_model.specs.Cells.{cells}
+use Rattle.grid_model.specs.Lawful.{StandsWith}
 use Rattle.grid_model.specs.Layouts.{BucketBox, Layout}
 use Rattle.grid_model.specs.Lone.{boundaries, need}
 use Rattle.grid_model.specs.Notes.{merges, put_note}
@@ -53,6 +54,12 @@ pub record IsChosenPlan {K : ℕ} (shape : Shape) (free : ℕ) (L : Layout K) (t
 abbrev pub IsOutcomeOf : {K : ℕ} → Shape → ℕ → Layout K → Table → ℕ × BucketBox K → Update K → List ℕ → List ℕ → Outcome K → Type 0
 IsOutcomeOf shape free L t e u first second outcome.Nothing = ChangesNothing t u
 IsOutcomeOf shape free L t e u first second (outcome.Change p) = IsChosenPlan shape free L t e u first second p
+
+-- an outcome fits an update, whatever the pages say: its plan's note stands with it, and only a removal changes nothing
+abbrev pub FitsUpdate : {K : ℕ} → Update K → Outcome K → Type 0
+FitsUpdate u (outcome.Change p) = StandsWith u p.note
+FitsUpdate (Put r) outcome.Nothing = ⊥
+FitsUpdate (Remove k) outcome.Nothing = ⊤
 
 -- where there is a plan, P holds of it
 abbrev pub IfChange : {K : ℕ} → (Plan K → Type 0) → Outcome K → Type 0

@@ -18,7 +18,7 @@ ghost use Rattle.grid_file.specs.Keeping.{ReadsFile};
 ghost use Rattle.grid_file.specs.Pages.{front_place};
 ghost use Rattle.file_updates.specs.Ready.{IsReadyPlan};
 ghost use Rattle.file_updates.specs.Rooms.{HasRoomFor};
-ghost use Rattle.file_updates.specs.Outcomes.{HasUpdateCause, IfChange, IsFirstMerge, IsHonestRefusal, IsOutcomeOf};
+ghost use Rattle.file_updates.specs.Outcomes.{FitsUpdate, HasUpdateCause, IfChange, IsFirstMerge, IsHonestRefusal, IsOutcomeOf};
 
 use crate::UpdateRoom;
 use crate::found::{key_of, plan_found_merge, plan_found_put, plan_found_removal};
@@ -124,7 +124,7 @@ fn plan_update_removal<const K: usize, D: Disk, L: Ledger>(
         (count_by is_free file.old.books.pages) L t e (Remove key.now)
         room.new.first.value room.new.second.value) }
     ensures ready { IfOk result (IfChange (IsReadyPlan file.old.books (Remove key.now))) }
-    ensures fits { IfOk result (IfChange (λ p. StandsWith (Remove key.now) p.note)) }
+    ensures fits { IfOk result (FitsUpdate (Remove key.now)) }
     ensures honest { (L : Layout K) (t : Table)
         → IsPinnedTo (front_place D.Disk file.old) L t
         → IfErr result (λ r. r ≡ ReadFault) }
@@ -167,7 +167,7 @@ pub fn plan_update<const K: usize, D: Disk, L: Ledger>(
         (count_by is_free file.old.books.pages) L t e update.now
         room.new.first.value room.new.second.value) }
     ensures ready { IfOk result (IfChange (IsReadyPlan file.old.books update.now)) }
-    ensures fits { IfOk result (IfChange (λ p. StandsWith update.now p.note)) }
+    ensures fits { IfOk result (FitsUpdate update.now) }
     ensures honest { (L : Layout K) (t : Table) (e : ℕ × BucketBox K)
         → IsPinnedTo (front_place D.Disk file.old) L t
         → holder L (updated_key update.now) ≡ Some e

@@ -4,7 +4,6 @@ use Rattle.std.specs.Prelude.{IfOk}
 use Rattle.std.specs.List.{count_by}
 use Rattle.grid_types.specs.declared.shape.Shape.{Shape}
 use Rattle.grid_types.specs.declared.update.Update.{Update}
-use Rattle.grid_model.specs.Lawful.{StandsWith}
 use Rattle.grid_model.specs.Layouts.{holder}
 use Rattle.grid_model.specs.Cells.{cells}
 use Rattle.grid_model.specs.Lone.{boundaries}
@@ -19,7 +18,7 @@ use Rattle.merge_paths.specs.Partners.{HasPartnerCause}
 use Rattle.file_books.specs.Books.{Books}
 use Rattle.grid_file.specs.CallLaws.{reads_on}
 use Rattle.grid_file.specs.Pages.{front_place}
-use Rattle.file_updates.specs.Outcomes.{IfChange, IsChosenPlan, IsOutcomeOf}
+use Rattle.file_updates.specs.Outcomes.{FitsUpdate, IfChange, IsChosenPlan, IsOutcomeOf}
 use Rattle.file_updates.specs.Ready.{IsReadyPlan}
 use Rattle.file_updates.proofs.UpdateCauses.{by_get, cause_by_beside, honest_cut, honest_reading}
 use Rattle.file_updates.proofs.planning.plan_update.Goals as goal
@@ -90,7 +89,7 @@ returns-in-Remove-clause-ready g c =
     subst (λ (z : Books × Update g.row.K). IfOk c.plan_update_removal.result (IfChange (IsReadyPlan {K = g.row.K} z.0 z.1))) (λ i. (c.find_bucket.ensures.same.same_rest.books i, sym c.in-Remove.is i)) c.plan_update_removal.ensures.ready
 
 pub returns-in-Remove-clause-fits : goal.returns-in-Remove-clause-fits
-returns-in-Remove-clause-fits g c = subst (λ (u : Update g.row.K). IfOk c.plan_update_removal.result (IfChange (λ p. StandsWith u p.note))) (sym c.in-Remove.is) c.plan_update_removal.ensures.fits
+returns-in-Remove-clause-fits g c = subst (λ (u : Update g.row.K). IfOk c.plan_update_removal.result (FitsUpdate u)) (sym c.in-Remove.is) c.plan_update_removal.ensures.fits
 
 pub returns-in-Remove-clause-honest : goal.returns-in-Remove-clause-honest
 returns-in-Remove-clause-honest g c = λ L t e pin holds.
