@@ -1,5 +1,5 @@
 -- Where a session of one client is.
-use Rattle.std.specs.Prelude.{◌≡◌, ◌⊎◌, ◌+◌, ℕ, List, [], ◌∷◌, Option, None, IfSome}
+use Rattle.std.specs.Prelude.{◌≡◌, ◌⊎◌, ◌+◌, ℕ, List, [], ◌∷◌, Option, None, IsSomeAnd}
 use Rattle.grid_types.specs.declared.layout_change.LayoutChange.{LayoutChange}
 use Rattle.grid_types.specs.declared.shape.Shape.{Shape}
 use Rattle.grid_types.specs.declared.update.Update.{Update}
@@ -24,7 +24,7 @@ pub record Point (K : ℕ) : Type 0 where
 
 -- an image stands at a point: there, or with the batch in doubt
 abbrev pub StandsAt : {K : ℕ} → Point K → List ℕ → Type 0
-StandsAt p image = HasStanding image p.at ⊎ IfSome p.beyond (λ m. HasStanding image m)
+StandsAt p image = HasStanding image p.at ⊎ IsSomeAnd p.beyond (λ m. HasStanding image m)
 
 -- from a point where nothing is in doubt an update with a lawful note leads to this standing
 pub record LeadsBy {K : ℕ} (shape : Shape) (p : Point K) (u : Update K) (m : Standing K) : Type 0 where
