@@ -1,0 +1,9 @@
+pub mod Carryings
+pub mod Commits
+pub mod Goings
+pub mod Rooms
+pub mod Roots
+pub mod Sweeps
+pub mod Writings
+pub mod Plannings
+pub mod Updates
