@@ -1,0 +1,5 @@
+pub mod Stores
+pub mod Answered
+pub mod Changing
+pub mod Opening
+pub mod Laws

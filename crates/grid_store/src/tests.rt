@@ -1,0 +1,5 @@
+mod asking;
+mod faults;
+mod script;
+mod stopping;
+mod worked;
