@@ -1,1 +1,8 @@
-mod Numbers
+mod Heads
+mod Judging
+mod Counting
+mod Ends
+mod Held
+mod Strays
+mod Covering
+mod Tally

@@ -1,45 +1,61 @@
 //! The bucket pages of a file, judged in the order of their numbers.
-ghost use Rattle.std.specs.Prelude.{◌≡◌, ◌≢◌, ◌<◌, ◌≤◌, ◌+◌, ◌*◌, ◌↔◌, ℕ, IsTrue, IfOk, length, slice_index};
+ghost use Rattle.std.specs.Prelude.{◌≡◌, ◌≢◌, ◌<◌, ◌≤◌, ◌+◌, ◌*◌, ◌↔◌, ℕ, Ok, None, IsTrue, IfOk, IfSome, IsSome, length, slice_index};
 ghost use Rattle.grid_types.specs.declared.refusal.Refusal.TheVariants.{ReadFault};
 ghost use Rattle.grid_types.specs.declared.sizes.TheConstants.{PAGE_BYTES, MOST_ATTRIBUTES, MOST_RECORDS};
 ghost use Rattle.grid_types.specs.Shapes.{file_pages};
-ghost use Rattle.grid_model.specs.Lawful.{nowhere};
+ghost use Rattle.grid_model.specs.Lawful.{nowhere, pages_named};
 ghost use Rattle.disk_trait.specs.Calls.{OnlyReads, HasCauses};
+ghost use Rattle.grid_check.specs.Reads.{HoldsPage, HoldsBucket, AreHeld};
 ghost use Rattle.grid_check.specs.Rules.{SpellsNumber, HasBucket, JudgesBuckets};
 
+use crate::Holding;
+use crate::numbers::is_numbered;
 use bucket_page::judge;
 use disk_trait::{Disk, Steps, read_page};
 use grid_types::{Geometry, PAGE_BYTES, PageList, Refusal};
-use linear_scales::NOWHERE;
 use std::sync::ledger::Ledger;
 
-/// Whether the page spells a bucket of that number.
-fn has_number<const K: usize>(page: &[u8; PAGE_BYTES], capacity: u16, number: u32) -> bool
+/// What is held of the bucket of that number, where the page spells one.
+fn held_of<const K: usize>(
+    page: &[u8; PAGE_BYTES],
+    capacity: u16,
+    number: u32,
+) -> Option<Holding<K>>
     requires few { K ≤ MOST_ATTRIBUTES }
     requires lawful { capacity ≤ MOST_RECORDS }
-    ensures { IsTrue result ↔ SpellsNumber K capacity page.now number }
+    ensures some { IsSome result ↔ SpellsNumber K capacity page.now number }
+    ensures held { IfSome result (HoldsPage capacity page.now number) }
 {
     let Some(head) = judge::<K>(page, capacity) else {
-        return false;
+        return None;
     };
-    head.number == number
+    if head.number != number {
+        return None;
+    }
+    Some(Holding {
+        region: head.region,
+        count: head.count,
+    })
 }
 
-/// Whether the page of a bucket's number spells a bucket of that number.
-fn has_bucket<const K: usize, D: Disk, L: Ledger>(
+/// What is held of the bucket of a number, where the number's page spells it.
+fn read_held<const K: usize, D: Disk, L: Ledger>(
     disk: &mut D,
     geometry: &Geometry,
     table: &PageList,
     number: u32,
     steps: &mut Steps<L>,
-) -> Result<bool, Refusal>
+) -> Result<Option<Holding<K>>, Refusal>
     requires size { file_pages geometry.now.shape * PAGE_BYTES ≤ D.extent disk.old }
     requires few { K ≤ MOST_ATTRIBUTES }
     requires listed { number < length table.now.items }
     requires page { slice_index table.now.items number < geometry.now.shape.pages }
     ensures judged { IsTrue (D.honest disk.old)
-        → IfOk result (λ good. IsTrue good ↔ HasBucket K geometry.now.shape (D.seen disk.old)
+        → IfOk result (λ found. IsSome found ↔ HasBucket K geometry.now.shape (D.seen disk.old)
         table.now.items number) }
+    ensures held { IsTrue (D.honest disk.old)
+        → IfOk result (λ found. IfSome found (HoldsBucket geometry.now.shape (D.seen disk.old)
+        table.now.items number)) }
     ensures same { OnlyReads D.Disk disk.old disk.new }
     ensures causes { HasCauses D.Disk (λ e. e ≡ ReadFault) disk.old disk.new result }
     ensures ticks { steps.new ≡ steps.old + 1 }
@@ -47,15 +63,16 @@ fn has_bucket<const K: usize, D: Disk, L: Ledger>(
     let mut page = [0; PAGE_BYTES];
     let at = geometry.data_page(table.list()[number as usize]);
     read_page(disk, at as u64, &mut page, steps)?;
-    Ok(has_number::<K>(&page, geometry.shape.capacity, number))
+    Ok(held_of(&page, geometry.shape.capacity, number))
 }
 
 /// The page of the first bucket number whose page spells no bucket of that number, or none. No page behind that one is read.
-#[tactic(auto, unfolding(grid_model::specs::Lawful::nowhere))]
+/// Where there is none, `holdings` has what is held of each bucket then, under its number.
 pub fn first_bad_bucket<const K: usize, D: Disk, L: Ledger>(
     disk: &mut D,
     geometry: &Geometry,
     table: &PageList,
+    holdings: &mut [Holding<K>],
     steps: &mut Steps<L>,
 ) -> Result<Option<u32>, Refusal>
     requires size { file_pages geometry.now.shape * PAGE_BYTES ≤ D.extent disk.old }
@@ -64,18 +81,25 @@ pub fn first_bad_bucket<const K: usize, D: Disk, L: Ledger>(
     requires pages { (n : ℕ) → n < length table.now.items
         → slice_index table.now.items n ≢ nowhere
         → slice_index table.now.items n < geometry.now.shape.pages }
+    requires room { length holdings.old ≡ length table.now.items }
     ensures judged { IsTrue (D.honest disk.old)
         → IfOk result (JudgesBuckets K geometry.now.shape (D.seen disk.old) table.now.items) }
+    ensures held { IsTrue (D.honest disk.old)
+        → result ≡ Ok None
+        → AreHeld geometry.now.shape (D.seen disk.old) table.now.items
+        holdings.new (length table.now.items) }
+    ensures room { length holdings.new ≡ length holdings.old }
     ensures same { OnlyReads D.Disk disk.old disk.new }
     ensures causes { HasCauses D.Disk (λ e. e ≡ ReadFault) disk.old disk.new result }
-    ensures ticks { steps.new ≤ steps.old + length table.now.items }
+    ensures ticks { steps.new ≤ steps.old + length (pages_named table.now.items) }
 {
     for number in 0..geometry.shape.pages {
-        if table.list()[number as usize] == NOWHERE {
+        if !is_numbered(table, number) {
             continue;
         }
-        if !has_bucket::<K, D, L>(disk, geometry, table, number, steps)? {
-            return Ok(Some(geometry.data_page(table.list()[number as usize])));
+        match read_held(disk, geometry, table, number, steps)? {
+            Some(held) => holdings[number as usize] = held,
+            None => return Ok(Some(geometry.data_page(table.list()[number as usize]))),
         }
     }
     Ok(None)

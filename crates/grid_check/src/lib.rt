@@ -3,8 +3,17 @@
 
 mod buckets;
 mod cells;
+mod covers;
+mod faces;
+mod holding;
+mod numbers;
 mod parts;
+mod records;
 
 pub use buckets::first_bad_bucket;
 pub use cells::first_bad_cell;
+pub use covers::first_bad_cover;
+pub use faces::first_bad_face;
+pub use holding::Holding;
 pub use parts::first_bad_part;
+pub use records::count_records;
