@@ -15,7 +15,7 @@ use Rattle.grid_check.specs.Reads.{AreNamed, AreHeld}
 use Rattle.grid_check.specs.Covers.{region_under, AllName, NoneStrays, IsLeastStray}
 use Rattle.grid_check.specs.declared.holding.Holding.{Holding}
 use Rattle.grid_check.proofs.Held.{item, rule_on_all}
-use Rattle.grid_check.proofs.Judging.{as_numbers}
+use Rattle.grid_check.proofs.Alike.{as_numbers}
 use Rattle.grid_check.proofs.Strays.{region_is_under, named_by, none_strays, all_name_it}
 
 module _ {K : ℕ} (scales : List (List ℕ)) where

@@ -1,8 +1,12 @@
 mod Heads
-mod Judging
+mod Alike
 mod Counting
 mod Ends
 mod Held
 mod Strays
 mod Covering
 mod Tally
+mod Breaches
+mod RootLists
+mod Standing
+mod Checked

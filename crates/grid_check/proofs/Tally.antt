@@ -106,3 +106,30 @@ module _ {K : ℕ} (s : Shape) (few : K ≤ MOST_ATTRIBUTES) (low : s.capacity �
       ∙ ap (sum_by (records_under table holdings)) has.numbers
       ∙ sym (sum_without (λ n. not (slice_index table n == nowhere)) (records_under table holdings) nothing_under (below (length table)))
       ∙ sym (is ∙ ap (λ m. sum_by (λ x. x) (map (records_under table holdings) (below m))) end ∙ mapped_sum (records_under table holdings) (below (length table)))
+
+  -- the buckets that the pages of the numbers tell
+  abbrev pub told : List (BucketOf K)
+  told = map (λ n. bucket_told K (entry_page s image table n)) (numbers_of table)
+
+  -- under a number that a bucket has, the page tells a bucket of that number
+  told_there : (n : ℕ) → IsHad table n → SpellsBucket s.capacity (entry_page s image table n) (bucket_told K (entry_page s image table n)) × ((bucket_told K (entry_page s image table n)).number ≡ n)
+  told_there n had =
+      let h = held n had.inside had.named (item holdings n (omega (arith, had.inside, long))) in
+      (h.spelled, h.number_is)
+
+  their_numbers : (ns : List ℕ) → All (IsHad table) ns → map (λ b. b.number) (map (λ n. bucket_told K (entry_page s image table n)) ns) ≡ ns
+  their_numbers [] all = refl
+  their_numbers (n ∷ ns) all = λ i. (told_there n (All-head (IsHad table) n ns all)).1 i ∷ their_numbers ns (All-tail (IsHad table) n ns all) i
+
+  -- they are the buckets of the table
+  pub has_told : HasBuckets s image table told
+  has_told = record {
+    numbers = their_numbers (numbers_of table) (all_had table);
+    each = All-map (λ b. SpellsBucket s.capacity (entry_page s image table b.number) b) (λ n. bucket_told K (entry_page s image table n)) (numbers_of table)
+        (All-weaker (IsHad table) (λ n. SpellsBucket s.capacity (entry_page s image table (bucket_told K (entry_page s image table n)).number) (bucket_told K (entry_page s image table n)))
+        (λ n had. let t = told_there n had in subst (λ m. SpellsBucket s.capacity (entry_page s image table m) (bucket_told K (entry_page s image table n))) (sym t.1) t.0) (numbers_of table) (all_had table));
+  }
+
+  -- they have one number of records
+  pub one_count : (n m : ℕ) → HasRecords K s image table n → HasRecords K s image table m → n ≡ m
+  one_count n m x y = sym (x told has_told) ∙ y told has_told

@@ -1,3 +1,4 @@
 pub mod Rules
 pub mod Reads
 pub mod Covers
+pub mod Verdicts

@@ -1,5 +1,7 @@
 -- What was read of a file's directory pages and bucket pages, as it stands in memory.
-use Rattle.std.specs.Prelude.{◌≡◌, ◌≢◌, ◌<◌, ◌+◌, ◌-◌, ◌*◌, ℕ, List, length, min, slice_index, get_or}
+use Rattle.std.specs.Prelude.{◌≡◌, ◌≢◌, ◌<◌, ◌+◌, ◌-◌, ◌*◌, ◌⊎◌, ℕ, List, length, min, slice_index, get_or}
+use Rattle.grid_types.specs.declared.refusal.Refusal.{Refusal}
+use Rattle.grid_types.specs.declared.refusal.Refusal.TheVariants.{NoMemory, ReadFault}
 use Rattle.grid_types.specs.declared.shape.Shape.{Shape}
 use Rattle.grid_types.specs.declared.sizes.TheConstants.{WORDS_ON_PAGE}
 use Rattle.grid_model.specs.Lawful.{nowhere}
@@ -39,3 +41,7 @@ HoldsBucket s image table n holding = HoldsPage s.capacity (entry_page s image t
 -- for each number below this one that a bucket has, the bucket's page is held
 abbrev pub AreHeld : {K : ℕ} → Shape → List ℕ → List ℕ → List (Holding K) → ℕ → Type 0
 AreHeld {K} s image table holdings n = (m : ℕ) → m < n → slice_index table m ≢ nowhere → (d : Holding K) → HoldsBucket s image table m (get_or holdings m d)
+
+-- a read failed, or memory was wanting
+abbrev pub MayRefusePages : Refusal → Type 0
+MayRefusePages e = (e ≡ ReadFault) ⊎ (e ≡ NoMemory)

@@ -1,9 +1,9 @@
 //! The numbers that the cells of a directory name, judged in the order of their parts.
-ghost use Rattle.std.specs.Prelude.{◌≡◌, ◌<◌, ◌≤◌, ◌+◌, ◌*◌, ◌↔◌, ℕ, List, IsTrue, length, slice_index};
+ghost use Rattle.std.specs.Prelude.{◌≡◌, ◌<◌, ◌≤◌, ◌+◌, ◌*◌, ◌↔◌, ℕ, List, None, IsTrue, length, slice_index};
 ghost use Rattle.grid_types.specs.Shapes.{word_pages};
 ghost use Rattle.grid_model.specs.Lists.{product};
 ghost use Rattle.grid_check.specs.Reads.{AreNamed, AreNumbered};
-ghost use Rattle.grid_check.specs.Rules.{JudgesCells};
+ghost use Rattle.grid_check.specs.Rules.{IsNumbered, JudgesCells};
 
 use crate::numbers::is_numbered;
 use grid_cells::Dims;
@@ -41,6 +41,10 @@ pub fn first_bad_cell<const K: usize>(
         → AreNamed geometry.now.shape image parts.now.items names.now (product dims.now.intervals)
         → JudgesCells geometry.now.shape image
         dims.now.intervals parts.now.items table.now.items result }
+    ensures numbered { result ≡ None
+        → (at : ℕ)
+        → at < length names.now
+        → IsNumbered table.now.items (slice_index names.now at) }
 {
     for part in 0..(dims.cells() + 999) / 1000 {
         if !are_numbered(table, names, part) {

@@ -3,17 +3,22 @@
 
 mod buckets;
 mod cells;
+mod checking;
 mod covers;
 mod faces;
 mod holding;
+mod judging;
 mod numbers;
 mod parts;
 mod records;
+mod verdict;
 
 pub use buckets::first_bad_bucket;
 pub use cells::first_bad_cell;
+pub use checking::check_file;
 pub use covers::first_bad_cover;
 pub use faces::first_bad_face;
 pub use holding::Holding;
 pub use parts::first_bad_part;
 pub use records::count_records;
+pub use verdict::{Breach, Rule, Verdict};

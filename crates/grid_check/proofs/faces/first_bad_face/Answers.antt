@@ -7,7 +7,7 @@ use Rattle.linear_scales.specs.Limited.{scales_of}
 use Rattle.grid_check.specs.Rules.{HasFaces}
 use Rattle.grid_check.specs.declared.holding.Holding.{Holding}
 use Rattle.grid_check.proofs.Held.{rule_on_all}
-use Rattle.grid_check.proofs.Judging.{as_numbers}
+use Rattle.grid_check.proofs.Alike.{as_numbers}
 use Rattle.grid_check.proofs.faces.first_bad_face.Goals as goal
 
 pub returns-then-not-has_faces : goal.returns-then-not-has_faces

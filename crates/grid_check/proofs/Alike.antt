@@ -40,7 +40,7 @@ in_part : (p i : ℕ) → i < 1000 → (1000 * p + i) % 1000 ≡ i
 in_part p i lt = omega (arith, lt)
 
 -- the number of a cell is on the page of its part
-named_on_part : (s : Shape) (image listed : List ℕ) (p i : ℕ) → i < WORDS_ON_PAGE → number_named s image listed (WORDS_ON_PAGE * p + i) ≡ bucket_in i (entry_page s image listed p)
+pub named_on_part : (s : Shape) (image listed : List ℕ) (p i : ℕ) → i < WORDS_ON_PAGE → number_named s image listed (WORDS_ON_PAGE * p + i) ≡ bucket_in i (entry_page s image listed p)
 named_on_part s image listed p i lt = λ j. bucket_in (in_part p i lt j) (entry_page s image listed (at_part p i lt j))
 
 -- the numbers that were read name buckets where the cells on the pages do
@@ -52,3 +52,11 @@ numbered_cells s image ns listed table names long named p = (
   where
     here : (i : ℕ) → i < cells_on ns p → slice_index names (WORDS_ON_PAGE * p + i) ≡ bucket_in i (entry_page s image listed p)
     here i lt = named (WORDS_ON_PAGE * p + i) (omega (arith, lt)) ∙ named_on_part s image listed p i (omega (arith, lt))
+
+-- where the cells of each part name numbers that buckets have, each cell does
+pub all_numbered : (table names : List ℕ) (n : ℕ) → ((p : ℕ) → p < n → AreNumbered table names p) → length names ≤ 1000 * n → (at : ℕ) → at < length names → IsNumbered table (slice_index names at)
+all_numbered table names n each few at lt =
+    subst (λ i. IsNumbered table (slice_index names i)) (whole at) (each (at / 1000) (omega (arith, lt, few)) (at % 1000) (omega (arith, lt)))
+  where
+    whole : (at : ℕ) → 1000 * (at / 1000) + at % 1000 ≡ at
+    whole at = omega arith
