@@ -1,0 +1,4 @@
+pub mod Refusing
+pub mod Calling
+pub mod Following
+pub mod Telling
