@@ -49,6 +49,26 @@ impl<R: Files<File = File> + Drop> FileBay<R> {
     }
 }
 
+/// The folder of a path: what stands before its last slash.
+fn folder_of(name: &str) -> &str {
+    match name.rfind('/') {
+        Some(0) => "/",
+        Some(at) => &name[..at],
+        None => ".",
+    }
+}
+
+/// Fills a file that was made with zeros, and puts its name on the disk, so that it is there after a crash.
+fn settle<R: Files<File = File>>(
+    files: &R,
+    name: &str,
+    disk: &FileDisk,
+    pages: u64,
+) -> io::Result<()> {
+    disk.fill(pages)?;
+    File::open(files, folder_of(name))?.sync_all()
+}
+
 /// Makes the file anew; a file that is there is left as it is. What could not be filled is taken away again.
 fn create_file<R: Files<File = File>>(files: &R, name: &str, pages: u64) -> io::Result<FileDisk>
     ensures size { IfOk result (λ d. d.size ≡ pages * PAGE_BYTES) }
@@ -58,7 +78,7 @@ fn create_file<R: Files<File = File>>(files: &R, name: &str, pages: u64) -> io::
         return Err(io::ErrorKind::InvalidInput.into());
     };
     let disk = FileDisk::new(File::create_new(files, name)?, size);
-    match disk.fill(pages) {
+    match settle(files, name, &disk, pages) {
         Ok(()) => Ok(disk),
         Err(error) => {
             let _ = fs::remove_file(files, name);

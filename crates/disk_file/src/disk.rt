@@ -31,14 +31,14 @@ impl FileDisk {
         }
     }
 
-    /// Writes the zeros out, page by page, so that the file has no holes, and puts them on the disk.
+    /// Writes the zeros out, page by page, so that the file has no holes. Whoever makes something of them syncs that.
     pub(crate) fn fill(&self, pages: u64) -> io::Result<()> {
         let zeros = [0; PAGE_BYTES];
         for page in 0..pages {
             self.file
                 .write_all_at(&zeros, page.wrapping_mul(PAGE_BYTES as u64))?;
         }
-        self.file.sync_all()
+        Ok(())
     }
 }
 

@@ -1,5 +1,5 @@
 -- What is judged by what stands in memory is judged by the pages that it was read of.
-use Rattle.std.proofs.Common.{◌≡◌, ◌≢◌, ◌<◌, ◌≤◌, ◌+◌, ◌-◌, ◌*◌, ◌/◌, ◌%◌, ◌↔◌, ◌∙◌, ℕ, List, Option, Some, None, length, min, slice_index, sym, ap, subst, arith}
+use Rattle.std.proofs.Common.{◌≡◌, ◌≢◌, ◌<◌, ◌≤◌, ◌+◌, ◌*◌, ◌/◌, ◌%◌, ◌↔◌, ◌∙◌, ℕ, List, Option, Some, None, length, slice_index, sym, subst, arith}
 use Rattle.grid_types.specs.declared.shape.Shape.{Shape}
 use Rattle.grid_types.specs.declared.sizes.TheConstants.{WORDS_ON_PAGE}
 use Rattle.grid_model.specs.Lawful.{nowhere}
@@ -7,7 +7,7 @@ use Rattle.grid_model.specs.Lists.{product}
 use Rattle.grid_model.specs.Images.{entry_page}
 use Rattle.directory_pages.specs.CellBoxes.{cells_on}
 use Rattle.directory_pages.specs.Spelling.{bucket_in}
-use Rattle.grid_check.specs.Rules.{JudgesListed, JudgesNumbers, IsNumbered, NameBuckets, HasCells, number_named}
+use Rattle.grid_check.specs.Rules.{JudgesListed, JudgesNumbers, IsNumbered, HasCells, number_named}
 use Rattle.grid_check.specs.Reads.{AreNamed, AreNumbered}
 
 -- a rule of parts that says the same as another one is judged the same

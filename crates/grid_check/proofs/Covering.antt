@@ -1,13 +1,12 @@
 -- The rule of covers, judged by what stands in memory.
-use Rattle.std.proofs.Common.{◌≡◌, ◌≢◌, ◌<◌, ◌≤◌, ◌+◌, ◌↔◌, ◌∙◌, ◌⊎◌, inl, inr, ℕ, List, Option, Some, None, length, get_or, slice_index, sym, ap, subst, arith}
+use Rattle.std.proofs.Common.{◌≡◌, ◌≢◌, ◌<◌, ◌≤◌, ◌↔◌, ◌∙◌, ◌⊎◌, inl, inr, ℕ, List, Option, Some, None, length, get_or, slice_index, sym, ap, subst, arith}
 use Rattle.grid_types.specs.declared.shape.Shape.{Shape}
 use Rattle.grid_types.specs.declared.region.Region.{Region}
 use Rattle.grid_types.specs.declared.sizes.TheConstants.{MOST_ATTRIBUTES, MOST_RECORDS}
 use Rattle.grid_types.specs.Regions.{IsRegion}
 use Rattle.grid_model.specs.Lawful.{nowhere}
 use Rattle.grid_model.specs.Lists.{product}
-use Rattle.grid_model.specs.Cells.{dims, cell_of, cell_index}
-use Rattle.grid_model.specs.ScaleLaws.{IsCell}
+use Rattle.grid_model.specs.Cells.{dims, cell_index}
 use Rattle.grid_model.proofs.CellLaws.{key-has-cell}
 use Rattle.grid_model.proofs.Indices.{cell_index-below}
 use Rattle.grid_check.specs.Rules.{JudgesNumbers, JudgesCovers, IsNamedBy, IsNumbered, HasCover, number_named}
@@ -16,7 +15,7 @@ use Rattle.grid_check.specs.Covers.{region_under, AllName, NoneStrays, IsLeastSt
 use Rattle.grid_check.specs.declared.holding.Holding.{Holding}
 use Rattle.grid_check.proofs.Held.{item, rule_on_all}
 use Rattle.grid_check.proofs.Alike.{as_numbers}
-use Rattle.grid_check.proofs.Strays.{region_is_under, named_by, none_strays, all_name_it}
+use Rattle.grid_check.proofs.Strays.{region_is_under, none_strays, all_name_it}
 
 module _ {K : ℕ} (scales : List (List ℕ)) where
   -- two ways to name that agree on each cell

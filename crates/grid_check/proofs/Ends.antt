@@ -1,5 +1,5 @@
 -- A bound is an end of an interval where it is one of its own.
-use Rattle.std.proofs.Common.{◌≡◌, ◌<◌, ◌≤◌, ◌↔◌, ◌∙◌, ◌&&◌, ◌+◌, ℕ, true, List, pred, ◌++◌, ◌∷◌, [], length, map, slice_index, IsTrue, sym, ap, arith}
+use Rattle.std.proofs.Common.{◌≡◌, ◌∙◌, ◌+◌, ℕ, true, List, pred, ◌∷◌, [], length, map, sym, ap, arith}
 use Rattle.std.proofs.lemmas.List.{length-map, length-append}
 use Rattle.grid_types.specs.Keys.{top}
 use Rattle.grid_types.proofs.Numbers.{both, first, second}

@@ -1,18 +1,15 @@
 -- What is held of a bucket says what the page of its number spells.
-use Rattle.std.proofs.Common.{◌≡◌, ◌≢◌, ◌<◌, ◌≤◌, ◌↔◌, ◌∙◌, ℕ, zero, suc, List, [], ◌∷◌, length, get_or, slice_index, IsTrue, sym, ap, subst, arith}
+use Rattle.std.proofs.Common.{◌≡◌, ◌≢◌, ◌<◌, ◌≤◌, ◌↔◌, ◌∙◌, ℕ, zero, suc, List, [], ◌∷◌, length, get_or, slice_index, sym, ap, subst, arith}
 use Rattle.grid_types.specs.declared.shape.Shape.{Shape}
 use Rattle.grid_types.specs.declared.sizes.TheConstants.{MOST_ATTRIBUTES, MOST_RECORDS}
 use Rattle.grid_types.specs.declared.region.Region.{Region}
 use Rattle.grid_model.specs.Lawful.{nowhere}
 use Rattle.grid_model.specs.Spellings.{BucketOf}
 use Rattle.grid_model.specs.Buckets.{SpellsBucket}
-use Rattle.grid_model.specs.Layouts.{IsDrawn}
-use Rattle.grid_model.specs.Scales.{scale_of, is_drawn}
 use Rattle.grid_model.specs.Images.{entry_page}
 use Rattle.bucket_page.specs.OnPage.{bucket_told}
 use Rattle.bucket_page.proofs.Standing.{one_bucket_spelled}
-use Rattle.grid_check.specs.Rules.{HasFaces}
-use Rattle.grid_check.specs.Reads.{HoldsPage, HoldsBucket, AreHeld}
+use Rattle.grid_check.specs.Reads.{HoldsPage, AreHeld}
 use Rattle.grid_check.specs.declared.holding.Holding.{Holding}
 
 -- an item of a list that has one there

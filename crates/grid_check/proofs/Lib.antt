@@ -5,8 +5,13 @@ mod Ends
 mod Held
 mod Strays
 mod Covering
+mod Marking
+mod Counted
+mod Tabled
+mod Redone
 mod Tally
 mod Breaches
 mod RootLists
 mod Standing
 mod Checked
+mod Dumped

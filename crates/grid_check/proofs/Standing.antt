@@ -1,5 +1,5 @@
 -- The pages of an image that stands for a table keep all rules.
-use Rattle.std.proofs.Common.{◌≡◌, ◌≢◌, ◌<◌, ◌≤◌, ◌+◌, ◌*◌, ◌/◌, ◌%◌, ◌↔◌, ◌^◌, ◌∙◌, ◌⊎◌, ℕ, List, [], Option, Some, None, IsTrue, true, false, true≢false, Contains, length, map, sum, slice_index, slice_get, get_or, refl, sym, ap, subst, arith}
+use Rattle.std.proofs.Common.{◌≡◌, ◌≢◌, ◌<◌, ◌≤◌, ◌+◌, ◌*◌, ◌/◌, ◌↔◌, ◌∙◌, ℕ, List, [], Option, Some, None, true, true≢false, length, map, sum, slice_index, get_or, refl, sym, ap, subst, arith}
 use Rattle.std.specs.Prelude.{IsSome}
 use Rattle.std.proofs.lemmas.Option.{slice_get-get_or}
 use Rattle.std.proofs.lemmas.List.Elements.{All-contains}
@@ -7,42 +7,40 @@ use Rattle.grid_types.specs.declared.shape.Shape.{Shape}
 use Rattle.grid_types.specs.declared.owner.Owner.TheVariants.{Part}
 use Rattle.grid_types.specs.declared.sizes.TheConstants.{WORDS_ON_PAGE, MOST_ATTRIBUTES, MOST_RECORDS}
 use Rattle.grid_types.specs.declared.update.Update.TheVariants.{Remove}
-use Rattle.grid_types.specs.Regions.{contains, IsRegion}
+use Rattle.grid_types.specs.Regions.{contains}
 use Rattle.grid_types.proofs.Places.{within-limits}
 use Rattle.grid_model.specs.Lawful.{nowhere}
-use Rattle.grid_model.specs.Lists.{is_among, product}
+use Rattle.grid_model.specs.Lists.{is_among}
 use Rattle.grid_model.specs.Tables.{Table}
 use Rattle.grid_model.specs.Scales.{scale_of, is_scale}
 use Rattle.grid_model.specs.Cells.{dims, cells, parts, all_cells, cell_index, corner, InCellBox}
 use Rattle.grid_model.specs.ScaleLaws.{IsCell}
-use Rattle.grid_model.specs.Layouts.{BucketBox, Layout, box, number_at, directory, directory_part, IsDrawn}
+use Rattle.grid_model.specs.Layouts.{BucketBox, Layout, box, number_at, directory, IsDrawn}
 use Rattle.grid_model.specs.LayoutLaws.{StandsOver}
 use Rattle.grid_model.specs.Roots.{WholeRoot}
 use Rattle.grid_model.specs.Spellings.{BucketOf}
 use Rattle.grid_model.specs.Buckets.{SpellsBucket}
-use Rattle.grid_model.specs.Images.{entry_page, numbers_of, bucket_on, HasBuckets, Found, MakesTable, RootSpells}
-use Rattle.grid_model.proofs.Boxes.{one-value, one-box}
+use Rattle.grid_model.specs.Images.{entry_page, numbers_of, bucket_on, Found, MakesTable, RootSpells}
+use Rattle.grid_model.proofs.Boxes.{one-box}
 use Rattle.grid_model.proofs.CellLaws.{have-indices}
 use Rattle.grid_model.proofs.Counts.{among-found}
 use Rattle.grid_model.proofs.Indices.{cell_index-below}
 use Rattle.grid_model.proofs.Members.{contains-among, among-from-contains}
 use Rattle.grid_model.proofs.Numbered.{found-among}
 use Rattle.bucket_page.proofs.Standing.{one_bucket_spelled}
-use Rattle.directory_pages.specs.CellBoxes.{cells_on}
-use Rattle.directory_pages.specs.Spelling.{IsDirectoryPage, bucket_in}
 use Rattle.directory_changes.specs.Changes.{cell_box}
 use Rattle.shadow_directory.specs.Directories.{SpellDirectory}
 use Rattle.shadow_directory.proofs.Regions.{key-in-box, box-has-key}
 use Rattle.shadow_directory.proofs.Spelled.{told-page, told-bucket}
 use Rattle.shadow_directory.proofs.Told.{spell-it}
 use Rattle.history_pages.specs.OwnerPages.{owner_page}
-use Rattle.query_paths.proofs.Naming.{HasCell, lowest-key, lowest-lies, directory-at, cell-box}
+use Rattle.query_paths.proofs.Naming.{lowest-key, lowest-lies, directory-at, cell-box}
 use Rattle.file_images.proofs.Buckets.{one_list_of_buckets}
 use Rattle.file_images.proofs.Standings.{part_of_owner}
 use Rattle.file_finding.proofs.Findings.{few_attributes}
 use Rattle.file_finding.proofs.Stood.{stands_over}
 use Rattle.grid_check.specs.Rules.{HasPart, HasCells, HasBucket, HasFaces, HasCover, HasRecords, IsNumbered, number_named}
-use Rattle.grid_check.specs.Verdicts.{Judges, KeepsAll, root_found}
+use Rattle.grid_check.specs.Verdicts.{KeepsAll, root_found}
 use Rattle.grid_check.specs.declared.verdict.Rule.TheVariants.{Part as PartRule, Cell, Bucket, Face, Cover, Records}
 use Rattle.grid_check.proofs.Alike.{named_on_part}
 use Rattle.grid_check.proofs.RootLists.{had_there}

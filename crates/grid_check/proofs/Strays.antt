@@ -1,12 +1,12 @@
 -- The cells of a region against the numbers that cells name.
-use Rattle.std.proofs.Common.{◌≡◌, ◌≢◌, ◌<◌, ◌≤◌, ◌+◌, ◌↔◌, ◌∙◌, ◌⊎◌, inl, inr, ℕ, zero, suc, Bool, true, false, true≢false, IsTrue, List, [], ◌∷◌, Option, Some, None, length, map, min, get_or, slice_index, refl, sym, ap, subst, arith}
+use Rattle.std.proofs.Common.{◌≡◌, ◌<◌, ◌≤◌, ◌+◌, ◌↔◌, ◌∙◌, ◌⊎◌, inl, inr, ℕ, zero, suc, Bool, true, false, true≢false, IsTrue, List, [], ◌∷◌, Option, Some, None, length, min, get_or, slice_index, refl, sym, ap, subst, arith}
 use Rattle.std.proofs.lemmas.List.{length-map}
 use Rattle.grid_types.specs.declared.cell_box.CellBox.{CellBox}
 use Rattle.grid_types.specs.declared.region.Region.{Region}
 use Rattle.grid_types.specs.Regions.{IsRegion}
 use Rattle.grid_model.specs.Lists.{product}
 use Rattle.grid_model.specs.Scales.{intervals, scale_of}
-use Rattle.grid_model.specs.Cells.{dims, cells, cell_of, cell_index, InCellBox}
+use Rattle.grid_model.specs.Cells.{dims, cell_of, cell_index, InCellBox}
 use Rattle.grid_model.specs.ScaleLaws.{IsCell}
 use Rattle.grid_model.proofs.CellLaws.{key-has-cell}
 use Rattle.grid_model.proofs.Indices.{cell_index-below, cell_index-grows}

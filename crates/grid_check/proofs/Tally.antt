@@ -1,15 +1,15 @@
 -- The records that are held under bucket numbers are those of the buckets that the pages spell.
-use Rattle.std.proofs.Common.{◌≡◌, ◌≢◌, ◌<◌, ◌≤◌, ◌+◌, ◌*◌, ◌==◌, ◌||◌, ◌∙◌, ℕ, zero, suc, Bool, true, false, cond, not, Contains, List, [], ◌∷◌, All, length, map, sum, filter, get_or, slice_index, nat_le, nat_lt, refl, sym, ap, subst, arith}
+use Rattle.std.proofs.Common.{◌≡◌, ◌≢◌, ◌<◌, ◌≤◌, ◌+◌, ◌==◌, ◌||◌, ◌∙◌, ℕ, Bool, true, false, cond, not, Contains, List, [], ◌∷◌, All, length, map, sum, filter, flat_map, slice_index, nat_le, refl, sym, ap, subst, arith}
 use Rattle.std.specs.Prelude.{sum_by, if◌then◌else◌}
 use Rattle.std.proofs.lemmas.Bool.{ne_eqb, eqb-false}
 use Rattle.std.proofs.lemmas.List.{get_or-map}
-use Rattle.std.proofs.lemmas.List.Elements.{All-head, All-tail, All-map, All-nil, All-cons, filter_passes}
+use Rattle.std.proofs.lemmas.List.Elements.{All-head, All-tail, All-map, All-nil, All-cons}
 use Rattle.std.proofs.lemmas.List.FromFn.{sum_by-map-range_with_len_more}
 use Rattle.std.proofs.lemmas.List.Sums.{sum-map, sum_by-cons}
 use Rattle.grid_types.specs.declared.shape.Shape.{Shape}
 use Rattle.grid_types.specs.declared.sizes.TheConstants.{MOST_ATTRIBUTES, MOST_RECORDS}
 use Rattle.grid_model.specs.Lawful.{nowhere}
-use Rattle.grid_model.specs.Lists.{below, is_among}
+use Rattle.grid_model.specs.Lists.{below}
 use Rattle.grid_model.specs.Spellings.{BucketOf}
 use Rattle.grid_model.specs.Buckets.{SpellsBucket}
 use Rattle.grid_model.specs.Images.{entry_page, numbers_of, HasBuckets}
@@ -21,8 +21,10 @@ use Rattle.bucket_page.proofs.Standing.{one_bucket_spelled}
 use Rattle.grid_check.specs.Rules.{HasRecords}
 use Rattle.grid_check.specs.Reads.{AreHeld}
 use Rattle.grid_check.specs.Covers.{records_under}
+use Rattle.grid_check.specs.Marks.{Marks, MarksKeys, MarksBuckets, keys_at, keys_below}
 use Rattle.grid_check.specs.declared.holding.Holding.{Holding}
 use Rattle.grid_check.proofs.Held.{item}
+use Rattle.grid_check.proofs.Tabled.{keys_spelled}
 
 -- a number of a table that a bucket has
 pub record IsHad (table : List ℕ) (n : ℕ) : Type 0 where
@@ -74,6 +76,18 @@ sum_alike f number r xs all = sum-map f xs ∙ go xs all
 pub one_counted : (r : ℕ → ℕ) (n count more : ℕ) → count ≡ sum_by (λ x. x) (map r (below n)) → more ≡ r n → count + more ≡ sum_by (λ x. x) (map r (below (n + 1)))
 one_counted r n count more is here = omega (arith, is, here, sum_by-map-range_with_len_more (λ x. x) r 0 n n (omega arith))
 
+-- each bucket that a page spells is the one that the page tells
+pub all_told : {K : ℕ} (s : Shape) → K ≤ MOST_ATTRIBUTES → s.capacity ≤ MOST_RECORDS → (image table : List ℕ) → ((n : ℕ) → IsHad table n → SpellsBucket s.capacity (entry_page s image table n) (bucket_told K (entry_page s image table n)))
+    → (bs : List (BucketOf K)) → HasBuckets s image table bs → All (λ b. b ≡ bucket_told K (entry_page s image table b.number)) bs
+all_told {K} s few low image table told bs has = go bs (subst (All (IsHad table)) (sym has.numbers) (all_had table)) has.each
+  where
+    go : (bs : List (BucketOf K)) → All (IsHad table) (map (λ b. b.number) bs) → All (λ b. SpellsBucket s.capacity (entry_page s image table b.number) b) bs → All (λ b. b ≡ bucket_told K (entry_page s image table b.number)) bs
+    go [] had all = All-nil (λ b. b ≡ bucket_told K (entry_page s image table b.number))
+    go (b ∷ bs) had all =
+        All-cons (λ b. b ≡ bucket_told K (entry_page s image table b.number)) b bs
+        (one_bucket_spelled s.capacity (entry_page s image table b.number) b (bucket_told K (entry_page s image table b.number)) few low (All-head (λ b. SpellsBucket s.capacity (entry_page s image table b.number) b) b bs all) (told b.number (All-head (IsHad table) b.number (map (λ b. b.number) bs) had)))
+        (go bs (All-tail (IsHad table) b.number (map (λ b. b.number) bs) had) (All-tail (λ b. SpellsBucket s.capacity (entry_page s image table b.number) b) b bs all))
+
 module _ {K : ℕ} (s : Shape) (few : K ≤ MOST_ATTRIBUTES) (low : s.capacity ≤ MOST_RECORDS) (image table : List ℕ) (holdings : List (Holding K)) (long : length holdings ≡ length table) (held : AreHeld s image table holdings (length table)) where
   nothing_under : (n : ℕ) → not (slice_index table n == nowhere) ≡ false → records_under table holdings n ≡ 0
   nothing_under n e = ap (λ (b : Bool). if b || nat_le (length table) n then 0 else slice_index (map (λ h. h.count) holdings) n) (not_true (slice_index table n == nowhere) e)
@@ -116,6 +130,11 @@ module _ {K : ℕ} (s : Shape) (few : K ≤ MOST_ATTRIBUTES) (low : s.capacity �
   told_there n had =
       let h = held n had.inside had.named (item holdings n (omega (arith, had.inside, long))) in
       (h.spelled, h.number_is)
+
+  -- so the keys that the pages tell are those of whatever buckets they spell
+  pub keys_marked : (old new : Marks) → MarksKeys (keys_below K s image table (length table)) old new → MarksBuckets K s image table old new
+  keys_marked old new marks bs has =
+      subst (λ (keys : List (List ℕ)). MarksKeys keys old new) (sym (keys_spelled s image table bs (all_told s few low image table (λ n had. (told_there n had).0) bs has) ∙ ap (flat_map (keys_at K s image table)) has.numbers)) marks
 
   their_numbers : (ns : List ℕ) → All (IsHad table) ns → map (λ b. b.number) (map (λ n. bucket_told K (entry_page s image table n)) ns) ≡ ns
   their_numbers [] all = refl

@@ -5,7 +5,6 @@ use Rattle.grid_types.specs.declared.refusal.Refusal.TheVariants.{NoMemory, Read
 use Rattle.grid_types.specs.declared.shape.Shape.{Shape}
 use Rattle.grid_types.specs.declared.sizes.TheConstants.{WORDS_ON_PAGE}
 use Rattle.grid_model.specs.Lawful.{nowhere}
-use Rattle.grid_model.specs.Lists.{product}
 use Rattle.grid_model.specs.Buckets.{SpellsBucket}
 use Rattle.grid_model.specs.Images.{entry_page}
 use Rattle.bucket_page.specs.OnPage.{bucket_told}

@@ -1,11 +1,13 @@
 -- What is said of a file: that it keeps all rules, or which one is broken first, and at which page.
-use Rattle.std.specs.Prelude.{◌≡◌, ◌<◌, ◌+◌, ℕ, List, length, Option, Some, None}
+use Rattle.std.specs.Prelude.{◌≡◌, ◌<◌, ◌+◌, ℕ, List, fold, length, Option, Some, None}
 use Rattle.grid_types.specs.declared.shape.Shape.{Shape}
 use Rattle.grid_types.specs.Shapes.{header_page}
 use Rattle.grid_model.specs.Cells.{dims}
 use Rattle.grid_model.specs.Lawful.{pages_named}
 use Rattle.grid_model.specs.Roots.{WholeRoot}
-use Rattle.grid_model.specs.Images.{Found, IsFound}
+use Rattle.grid_model.specs.Spellings.{BucketOf}
+use Rattle.grid_model.specs.Tables.{Table}
+use Rattle.grid_model.specs.Images.{Found, IsFound, HasBuckets, AreRecordsOf, logged_effect, updates_taken}
 use Rattle.recovery.specs.Surveys.{survey_pages}
 use Rattle.grid_check.specs.Rules.{JudgesParts, JudgesCells, JudgesBuckets, JudgesFaces, JudgesCovers, HasRecords}
 use Rattle.grid_check.specs.declared.verdict.Rule.{Rule}
@@ -69,9 +71,13 @@ IsJudged K s image w (Some breach) = IsBreach K s image w breach
 abbrev pub root_found : {K : ℕ} → Found K → WholeRoot
 root_found f = record { fields = f.root; area = f.area }
 
--- what is said of what was found in an image up to a place: all rules are kept and this is the place, or this is the first breach of a rule
+-- so many records are in a table that what was found in an image makes: the records of the buckets that the root's pages spell, put together and changed by the updates that are taken
+abbrev pub LeavesRecords : {K : ℕ} → List ℕ → Found K → ℕ → Type 0
+LeavesRecords {K} image f records = (buckets : List (BucketOf K)) (t : Table) → HasBuckets f.shape image f.area.table buckets → AreRecordsOf buckets t → records ≡ length (fold logged_effect t (updates_taken f))
+
+-- what is said of what was found in an image up to a place: all rules are kept, this is the place and so many records are there, or this is the first breach of a rule
 abbrev pub IsSaid : {K : ℕ} → List ℕ → Found K → ℕ → Verdict → Type 0
-IsSaid {K} image f n (Sound front) = KeepsAll K f.shape image (root_found f) × (front ≡ n)
+IsSaid {K} image f n (Sound front records) = KeepsAll K f.shape image (root_found f) × (front ≡ n) × LeavesRecords image f records
 IsSaid {K} image f n (Unsound breach) = IsBreach K f.shape image (root_found f) breach
 
 -- a verdict is that on an image: something is found in it, and this is said of it

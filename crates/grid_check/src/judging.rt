@@ -8,6 +8,7 @@ ghost use Rattle.grid_model.specs.Lawful.{pages_named};
 ghost use Rattle.linear_scales.specs.Limited.{scales_of};
 ghost use Rattle.linear_scales.specs.Roots.{IsRoot, whole_of};
 ghost use Rattle.disk_trait.specs.Calls.{OnlyReads, HasCauses};
+ghost use Rattle.grid_check.specs.Marks.{MarksBuckets};
 ghost use Rattle.grid_check.specs.Reads.{AreNamed, AreHeld, MayRefusePages};
 ghost use Rattle.grid_check.specs.Rules.{IsNumbered};
 ghost use Rattle.grid_check.specs.Verdicts.{IsJudged, IsJudgedBelow, KeepsBelow};
@@ -25,6 +26,7 @@ use grid_cells::Dims;
 use grid_types::{Geometry, Refusal, Region};
 use linear_scales::Root;
 use std::alloc::{AllocError, Global};
+use std::collections::BTreeMap;
 use std::sync::ledger::Ledger;
 
 /// How many intervals each scale of a root has.
@@ -154,13 +156,15 @@ fn room_for_holdings<const K: usize>(
     Ok(vec![in alloc; nothing; pages as usize]?)
 }
 
-/// Judges the pages that a root names by all rules, in their order. What is read of them stands in `names` and `holdings` then.
+/// Judges the pages that a root names by all rules, in their order. What is read of them stands in `names` and `holdings` then,
+/// and the keys of all records are marked, those that have a mark.
 fn judge_pages<const K: usize, D: Disk, L: Ledger>(
     disk: &mut D,
     geometry: &Geometry,
     root: &Root<K>,
     names: &mut [u32],
     holdings: &mut [Holding<K>],
+    marks: &mut BTreeMap<[u64; K], bool>,
     steps: &mut Steps<L>,
 ) -> Result<Option<Breach>, Refusal>
     requires size { file_pages geometry.now.shape * PAGE_BYTES ≤ D.extent disk.old }
@@ -171,6 +175,10 @@ fn judge_pages<const K: usize, D: Disk, L: Ledger>(
     ensures judged { IsTrue (D.honest disk.old)
         → IfOk result (IsJudgedBelow K geometry.now.shape (D.seen disk.old)
         (whole_of root.now) 6) }
+    ensures marked { IsTrue (D.honest disk.old)
+        → result ≡ Ok None
+        → MarksBuckets K geometry.now.shape (D.seen disk.old) root.now.table.items
+        marks.old marks.new }
     ensures same { OnlyReads D.Disk disk.old disk.new }
     ensures causes { HasCauses D.Disk (λ e. e ≡ ReadFault) disk.old disk.new result }
     ensures ticks { steps.new ≤ steps.old + length root.now.parts.items
@@ -180,7 +188,7 @@ fn judge_pages<const K: usize, D: Disk, L: Ledger>(
     if let Some(breach) = judge_directory(disk, geometry, &dims, root, names, steps)? {
         return Ok(Some(breach));
     }
-    if let Some(page) = first_bad_bucket(disk, geometry, &root.table, holdings, steps)? {
+    if let Some(page) = first_bad_bucket(disk, geometry, &root.table, holdings, marks, steps)? {
         return Ok(Some(Breach {
             page,
             rule: Rule::Bucket,
@@ -189,12 +197,14 @@ fn judge_pages<const K: usize, D: Disk, L: Ledger>(
     Ok(judge_held(geometry, &dims, root, names, holdings))
 }
 
-/// Takes memory for what is read of the pages that a root names, and judges them by all rules, in their order.
+/// Takes memory for what is read of the pages that a root names, and judges them by all rules, in their order. It marks the
+/// keys of all records, those that have a mark.
 pub(crate) fn judge_root<const K: usize, D: Disk, L: Ledger>(
     alloc: Global,
     disk: &mut D,
     geometry: &Geometry,
     root: &Root<K>,
+    marks: &mut BTreeMap<[u64; K], bool>,
     steps: &mut Steps<L>,
 ) -> Result<Option<Breach>, Refusal>
     requires size { file_pages geometry.now.shape * PAGE_BYTES ≤ D.extent disk.old }
@@ -203,6 +213,10 @@ pub(crate) fn judge_root<const K: usize, D: Disk, L: Ledger>(
     ensures judged { IsTrue (D.honest disk.old)
         → IfOk result (IsJudgedBelow K geometry.now.shape (D.seen disk.old)
         (whole_of root.now) 6) }
+    ensures marked { IsTrue (D.honest disk.old)
+        → result ≡ Ok None
+        → MarksBuckets K geometry.now.shape (D.seen disk.old) root.now.table.items
+        marks.old marks.new }
     ensures same { OnlyReads D.Disk disk.old disk.new }
     ensures causes { HasCauses D.Disk MayRefusePages disk.old disk.new result }
     ensures ticks { steps.new ≤ steps.old + length root.now.parts.items
@@ -215,7 +229,15 @@ pub(crate) fn judge_root<const K: usize, D: Disk, L: Ledger>(
     let Ok(mut holdings) = room_for_holdings(alloc, geometry.shape.pages) else {
         return Err(Refusal::NoMemory);
     };
-    match judge_pages(disk, geometry, root, &mut names, &mut holdings, steps) {
+    match judge_pages(
+        disk,
+        geometry,
+        root,
+        &mut names,
+        &mut holdings,
+        marks,
+        steps,
+    ) {
         Ok(found) => Ok(found),
         Err(_) => Err(Refusal::ReadFault),
     }

@@ -27,8 +27,8 @@ pub struct Breach {
 /// What is said of a file.
 #[derive(Clone, Copy, Debug, PartialEq, Eq)]
 pub enum Verdict {
-    /// No rule is broken. The last update has that place.
-    Sound { front: u64 },
+    /// No rule is broken. The last update has that place, and the table has so many records there.
+    Sound { front: u64, records: u64 },
     /// This is the first rule that is broken, at this page first.
     Unsound { breach: Breach },
 }

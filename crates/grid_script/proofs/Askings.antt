@@ -28,10 +28,6 @@ module _ {K : ℕ} where
       ∙ so_far-also ls (record { client = client; request = r }) (asked (n + 1) client ms)
       ∙ ap (λ l. so_far l (asked (n + 1) client ms)) (sym more)
 
-  pub taken-bad : (n client : ℕ) (s : Said K) (ms : List (Meaning K)) → s ≡ said.Bad → asked n client (meant s ∷ ms) ≡ Err n
-  unfolding asked
-  taken-bad n client s ms e = ap (λ v. asked n client (meant v ∷ ms)) e
-
   -- where nothing is left, all is read
   pub all-taken : (ls : List (Line K)) (n client : ℕ) (rest : List ℕ) → length rest ≡ 0 → so_far ls (asked n client (meanings K rest)) ≡ Ok ls
   unfolding asked lines_of

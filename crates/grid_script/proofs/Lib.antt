@@ -1,5 +1,6 @@
 pub mod AllOf
 pub mod Askings
+pub mod Faults
 pub mod KeyPrints
 pub mod LinesOf
 pub mod NumberTexts

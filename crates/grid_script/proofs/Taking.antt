@@ -1,14 +1,16 @@
 -- The lines of a script that the program takes, and the first that it refuses.
 use Rattle.std.proofs.lemmas.List.{length-map}
+use Rattle.std.proofs.lemmas.List.Elements.{All-same, All-push, All-weaker}
 use Rattle.std.proofs.lemmas.Bool.Decides.{nat_tests}
 use Rattle.std.proofs.lemmas.List.FromFn.{length-range_with_len}
-use Rattle.std.proofs.Common.{◌==◌, cond, nat_le, leb-true, leb-false, eqb-true, ◌≡◌, ◌<◌, ◌≤◌, ◌+◌, ◌-◌, ◌⊎◌, ⊎_elim, ℕ, zero, suc, Bool, true, false, List, [], ◌∷◌, fold, take, length, Option, Some, None, IsTrue, IsFalse, Ok, Err, refl, sym, ap, subst, ◌∙◌, arith, true≢false, slice_get}
+use Rattle.std.proofs.Common.{◌==◌, cond, nat_le, nat_lt, leb-true, leb-false, eqb-true, ◌≡◌, ◌<◌, ◌≤◌, ◌+◌, ◌-◌, ◌⊎◌, ⊎_elim, ℕ, zero, suc, Bool, true, false, List, [], ◌∷◌, ◌++◌, fold, take, length, Option, Some, None, IsTrue, IsFalse, Ok, Err, refl, sym, ap, subst, ◌∙◌, arith, true≢false, slice_get}
 use Rattle.std.specs.Prelude.{filter_map}
-use Rattle.std.specs.List.{Contains, range_with_len, cons_option}
+use Rattle.std.specs.List.{All, Contains, range_with_len, cons_option}
 use Rattle.std.specs.Option.{option_and_then}
 use Rattle.grid_types.specs.declared.request.Line.{Line}
+use Rattle.grid_types.specs.declared.request.Request.{Request}
 use Rattle.grid_model.specs.Lists.{below}
-use Rattle.grid_model.specs.Script.{Meaning, Silent, Speaks, Asks, Bad, meaning, lines, lines_of, onto_first, meanings, longest}
+use Rattle.grid_model.specs.Script.{Meaning, Silent, Speaks, Asks, Bad, meaning, lines, lines_of, onto_first, meanings, asked, longest}
 use Rattle.grid_model.specs.ScriptLaws.{line_at, line_of, speaker, speaker_at}
 use Rattle.grid_model.proofs.Reading.{one-script, ok-is-no-err}
 use Rattle.grid_model.proofs.Boxes.{one-value, some-not-none}
@@ -36,16 +38,16 @@ slice_get-inside [] i x e = absurd (some-not-none x (sym e))
 slice_get-inside (y ∷ ys) zero x e = omega arith
 slice_get-inside (y ∷ ys) (suc i) x e = omega (arith, slice_get-inside ys i x e)
 
+not-false : (t : Bool) → (IsFalse t → ⊥) → IsTrue t
+not-false true h = refl
+not-false false h = absurd (h refl)
+
 module _ {K : ℕ} where
   -- line i is refused, where this client spoke before the first
   pub record Bars (client : ℕ) (ms : List (Meaning K)) (i : ℕ) : Type 0 where
     pub says : Meaning K
     pub there : slice_get ms i ≡ Some says
     pub refused : Refuses (fold speaker client (take i ms)) says
-
-  -- no line is refused
-  abbrev pub Passes : ℕ → List (Meaning K) → Type 0
-  Passes client ms = (i : ℕ) → Bars client ms i → ⊥
 
   -- line j is the first that is refused
   pub record Stops (client : ℕ) (ms : List (Meaning K)) (j : ℕ) : Type 0 where
@@ -61,12 +63,7 @@ module _ {K : ℕ} where
   bars-cons : (client : ℕ) (m : Meaning K) (ms : List (Meaning K)) (i : ℕ) → Bars (speaker client m) ms i → Bars client (m ∷ ms) (suc i)
   bars-cons client m ms i b = record { says = b.says; there = b.there; refused = b.refused }
 
-  -- behind a line that passes all pass where the rest does
-  passes-more : (client : ℕ) (m : Meaning K) (ms : List (Meaning K)) → (Refuses client m → ⊥) → Passes (speaker client m) ms → Passes client (m ∷ ms)
-  passes-more client m ms p h zero b = first-bars client m ms p b
-  passes-more client m ms p h (suc i) b = h i (bars-tail client m ms i b)
-
-  -- and the first that is refused is one later
+  -- behind a line that passes the first that is refused is one later
   stops-later : (client : ℕ) (m : Meaning K) (ms : List (Meaning K)) (j : ℕ) → (Refuses client m → ⊥) → Stops (speaker client m) ms j → Stops client (m ∷ ms) (suc j)
   stops-later client m ms j p h = record { refused = bars-cons client m ms j h.refused; first = first }
     where
@@ -74,36 +71,28 @@ module _ {K : ℕ} where
       first zero q b = first-bars client m ms p b
       first (suc i) q b = h.first i (omega (arith, q)) (bars-tail client m ms i b)
 
-  -- so far a text was read: where the rest passes all does, and where the rest stops all does
+  -- so far a text was read: where the rest stops all does
   pub record Follows (all : List (Meaning K)) (client : ℕ) (rest : List (Meaning K)) (number : ℕ) : Type 0 where
-    pub passes : Passes client rest → Passes 1 all
     pub stops : (j : ℕ) → Stops client rest j → Stops 1 all (number - 1 + j)
 
-  pub follows-start : (all : List (Meaning K)) → Follows all 1 all 1
-  follows-start all = record { passes = λ h. h; stops = λ j h. subst (Stops 1 all) (begins j) h }
-    where
-      begins : (j : ℕ) → j ≡ 1 - 1 + j
-      begins j = omega arith
-
   -- one line more
-  pub follows-more : (all : List (Meaning K)) (client : ℕ) (m : Meaning K) (ms rest : List (Meaning K)) (number : ℕ) → 1 ≤ number → rest ≡ m ∷ ms → (Refuses client m → ⊥) → Follows all client rest number → Follows all (speaker client m) ms (number + 1)
-  follows-more all client m ms rest number some e p h = record {
-    passes = λ t. h.passes (subst (Passes client) (sym e) (passes-more client m ms p t));
-    stops = λ j t. subst (Stops 1 all) (onward j) (h.stops (suc j) (subst (λ (xs : List (Meaning K)). Stops client xs (suc j)) (sym e) (stops-later client m ms j p t)));
+  pub follows-more : (all : List (Meaning K)) (client : ℕ) (m : Meaning K) (ms rest : List (Meaning K)) (number : ℕ) → 1 ≤ number → rest ≡ m ∷ ms → (Refuses client m → ⊥) → Follows all client rest number → (next past : ℕ) → next ≡ speaker client m → past ≡ number + 1 → Follows all next ms past
+  follows-more all client m ms rest number some e p h next past who later = record {
+    stops = λ j t. subst (Stops 1 all) (onward j) (h.stops (suc j) (subst (λ (xs : List (Meaning K)). Stops client xs (suc j)) (sym e) (stops-later client m ms j p (subst (λ c. Stops c ms j) who t))));
   }
     where
-      onward : (j : ℕ) → number - 1 + suc j ≡ number + 1 - 1 + j
-      onward j = omega (arith, some)
+      onward : (j : ℕ) → number - 1 + suc j ≡ past - 1 + j
+      onward j = omega (arith, some, later)
 
   -- the line at which it stops
   pub stops-here : (client : ℕ) (m : Meaning K) (ms : List (Meaning K)) → Refuses client m → Stops client (m ∷ ms) 0
   stops-here client m ms r = record { refused = record { says = m; there = refl; refused = r }; first = λ i q b. absurd (omega (arith, q)) }
 
-  as-barred : (ms : List (Meaning K)) (i : ℕ) → IsRefused ms i → Bars 1 ms i
-  as-barred ms i r = record { says = r.says; there = r.there; refused = r.refused }
-
   as-refused : (ms : List (Meaning K)) (i : ℕ) → Bars 1 ms i → IsRefused ms i
   as-refused ms i r = record { says = r.says; there = r.there; refused = r.refused }
+
+  as-barred : (ms : List (Meaning K)) (i : ℕ) → IsRefused ms i → Bars 1 ms i
+  as-barred ms i r = record { says = r.says; there = r.there; refused = r.refused }
 
   pub first-of : (bytes : List ℕ) (number : ℕ) → 1 ≤ number → Stops 1 (meanings K bytes) (number - 1 + 0) → IsFirstRefused K bytes number
   first-of bytes number some h = record {
@@ -115,51 +104,16 @@ module _ {K : ℕ} where
       same : (n : ℕ) → n - 1 + 0 ≡ n - 1
       same n = omega arith
 
-  nothing-barred : (client : ℕ) → Passes client []
-  nothing-barred client i b = some-not-none b.says (sym b.there)
+  -- where the next line is refused, it is the first that is
+  pub refused-next : (bytes : List ℕ) (client : ℕ) (m : Meaning K) (ms rest : List (Meaning K)) (number n : ℕ) → 1 ≤ number → number ≡ n → rest ≡ m ∷ ms → Refuses client m → Follows (meanings K bytes) client rest number → IsFirstRefused K bytes n
+  refused-next bytes client m ms rest number n some e next r h =
+      subst (IsFirstRefused K bytes) e (first-of bytes number some (h.stops 0 (subst (λ (xs : List (Meaning K)). Stops client xs 0) (sym next) (stops-here client m ms r))))
 
-  empty-passes : (client : ℕ) (rest : List ℕ) → length rest ≡ 0 → Passes client (meanings K rest)
-  unfolding lines_of
-  empty-passes client [] h = nothing-barred client
-  empty-passes client (b ∷ rest) h = absurd (omega (arith, h))
-
-  -- where nothing is left, no line is refused
-  pub all-pass : (bytes : List ℕ) (client : ℕ) (rest : List ℕ) (number : ℕ) → length rest ≡ 0 → Follows (meanings K bytes) client (meanings K rest) number → RefusesNone K bytes
-  all-pass bytes client rest number e h i r = h.passes (empty-passes client rest e) i (as-barred (meanings K bytes) i r)
-
-  -- what stands in a list that is made of some items was made of one
-  filter_map-origin : {X : Type 0} (f : X → Option (Line K)) (xs : List X) (l : Line K) → Contains (filter_map f xs) l → (x : X) × (f x ≡ Some l)
-  filter_map-origin f [] l c = absurd (omega (arith, c.1))
-  filter_map-origin {X = X} f (x ∷ xs) l c = cases (f x) refl c (filter_map-origin f xs l)
-    where
-      cases : (o : Option (Line K)) → f x ≡ o → Contains (cons_option o (filter_map f xs)) l → (Contains (filter_map f xs) l → (y : X) × (f y ≡ Some l)) → (y : X) × (f y ≡ Some l)
-      cases None e g rest = rest g
-      cases (Some m) e (zero, p, q) rest = (x, e ∙ ap Some q)
-      cases (Some m) e (suc k, p, q) rest = rest (k, omega (arith, p), q)
-
-  untaken-refuses : (client : ℕ) (m : Meaning K) (l : Line K) → line_of client m ≡ Some l → IsFalse (is_taken l) → Refuses client m
-  untaken-refuses client Silent l e f = absurd (some-not-none l (sym e))
-  untaken-refuses client (Speaks c) l e f = absurd (some-not-none l (sym e))
-  untaken-refuses client (Asks r) l e f = subst (λ x. IsFalse (is_taken x)) (sym (one-value (record { client = client; request = r }) l e)) f
-  untaken-refuses client Bad l e f = tt
-
-  -- a line that asks what is not taken is refused
-  untaken-refused : (ms : List (Meaning K)) (i : ℕ) (l : Line K) → line_at ms i ≡ Some l → IsFalse (is_taken l) → IsRefused ms i
-  untaken-refused ms i l e f = cases (slice_get ms i) refl
-    where
-      cases : (o : Option (Meaning K)) → slice_get ms i ≡ o → IsRefused ms i
-      cases None p = absurd (some-not-none l (sym e ∙ ap (λ x. option_and_then (line_of (speaker_at ms i)) x) p))
-      cases (Some m) p = record { says = m; there = p; refused = untaken-refuses (speaker_at ms i) m l (sym (ap (λ x. option_and_then (line_of (speaker_at ms i)) x) p) ∙ e) f }
-
-  -- a script with a line that is not taken has one that is refused
-  pub untaken-bars : (bytes : List ℕ) (asked : List (Line K)) (l : Line K) → length bytes ≤ longest → lines K bytes ≡ Ok asked → Contains asked l → IsFalse (is_taken l) → RefusesNone K bytes → ⊥
-  untaken-bars bytes asked l short read c f none =
-      let made = filter_map-origin (line_at (meanings K bytes)) (below (length (meanings K bytes))) l (subst (λ ls. Contains ls l) (((one-script {K = K}).whole bytes asked short).0 read).1 c) in
-      none made.0 (untaken-refused (meanings K bytes) made.0 l made.1 f)
-
-  -- a text that is no script of the grammar has a line that is refused
-  pub fault-bars : (bytes : List ℕ) (n : ℕ) → length bytes ≤ longest → lines K bytes ≡ Err n → RefusesNone K bytes → ⊥
-  fault-bars bytes n short e none = none (n - 1) (record { says = Bad; there = (((one-script {K = K}).fault bytes n short).0 e).bad; refused = tt })
+  -- one line more that is not refused
+  pub taken-more : (ls longer : List (Line K)) (client : ℕ) (r : Request K) → longer ≡ ls ++ (record { client = client; request = r }) ∷ [] → (Refuses client (Asks r) → ⊥) → AreTaken ls → AreTaken longer
+  taken-more ls longer client r e p h =
+      let l : Line K = record { client = client; request = r } in
+      All-same (λ x. IsTrue (is_taken x)) longer (ls ++ l ∷ []) e (All-push (λ x. IsTrue (is_taken x)) ls l h (not-false (is_taken l) p))
 
   -- a text that is read is short enough
   pub read-short : (bytes : List ℕ) (asked : List (Line K)) → lines K bytes ≡ Ok asked → length bytes ≤ longest
@@ -182,6 +136,15 @@ module _ {K : ℕ} where
   few-asked bytes asked e =
       omega (arith, ap length (((one-script {K = K}).whole bytes asked (read-short bytes asked e)).0 e).1, length-filter_map (line_at (meanings K bytes)) (below (length (meanings K bytes))), length-range_with_len 0 (length (meanings K bytes)), length-map (lines_of bytes) (meaning K), length-lines_of bytes)
 
+  -- the lines of a text that is not too long are read one by one
+  pub lines-read : (bytes : List ℕ) (ls : List (Line K)) → false ≡ nat_lt longest (length bytes) → asked 1 1 (meanings K bytes) ≡ Ok ls → lines K bytes ≡ Ok ls
+  unfolding lines
+  lines-read bytes ls short e = ap (λ t. cond t (Err 0) (asked 1 1 (meanings K bytes))) (sym short) ∙ e
+
+  -- the fault of a text that is not too long is the first line that is refused
+  pub fault-short : (bytes : List ℕ) (n : ℕ) → (longest < length bytes → ⊥) → IsFirstRefused K bytes n → IsFault K bytes n
+  fault-short bytes n short f = record { long = λ long. absurd (short long); short = λ h. f }
+
   filter_map-contains : (f : ℕ → Option (Line K)) (a n i : ℕ) (l : Line K) → a ≤ i → i < a + n → f i ≡ Some l → Contains (filter_map f (range_with_len a n)) l
   filter_map-contains f a zero i l p q e = absurd (omega (arith, p, q))
   filter_map-contains f a (suc n) i l p q e = cases (a == i) refl (filter_map-contains f (a + 1) n i l)
@@ -201,6 +164,11 @@ module _ {K : ℕ} where
   -- a line of a script is taken
   taken-one : (asked : List (Line K)) (l : Line K) → AreTaken asked → Contains asked l → IsTrue (is_taken l)
   taken-one asked l each c = subst (λ x. IsTrue (is_taken x)) c.2 (each c.0 l c.1)
+
+  -- each line of a script is client 1's
+  pub script-clients : (bytes : List ℕ) (asked : List (Line K)) → IsScript bytes asked → All (λ l. l.client ≡ 1) asked
+  unfolding is_taken
+  script-clients bytes asked s = All-weaker (λ l. IsTrue (is_taken l)) (λ l. l.client ≡ 1) (λ l t. eqb-true l.client 1 t) asked s.taken
 
   -- no line of a script is refused
   none-refused : (bytes : List ℕ) (asked : List (Line K)) → IsScript bytes asked → RefusesNone K bytes

@@ -1,24 +1,12 @@
--- What the program of today takes of a script: the puts and gets of client 1. It refuses any other line that asks something. Each later command comes in here.
-use Rattle.std.specs.Prelude.{◌≡◌, ◌<◌, ◌≤◌, ◌==◌, ◌-◌, ◌+◌, ℕ, List, Bool, true, false, ◌&&◌, Some, Ok, IsTrue, IsFalse, All, length, slice_get, ⊤}
+-- What the program takes of a script: the requests of client 1. It refuses any other line that asks something.
+use Rattle.std.specs.Prelude.{◌≡◌, ◌<◌, ◌≤◌, ◌==◌, ◌-◌, ◌+◌, ℕ, List, Bool, Some, Ok, IsTrue, IsFalse, All, length, slice_get, ⊤}
 use Rattle.grid_types.specs.declared.request.Line.{Line}
-use Rattle.grid_types.specs.declared.request.Request.{Request}
-use Rattle.grid_types.specs.declared.request.Request.TheVariants as ask
 use Rattle.grid_model.specs.Script.{Meaning, Silent, Speaks, Asks, Bad, longest, lines, meanings}
 use Rattle.grid_model.specs.ScriptLaws.{speaker_at}
 
--- a put or a get
-abbrev pub is_point : {K : ℕ} → Request K → Bool
-is_point (ask.Put r) = true
-is_point (ask.Remove k) = false
-is_point (ask.Get k) = true
-is_point (ask.List q) = false
-is_point (ask.Count q) = false
-is_point ask.Stat = false
-is_point ask.Checkpoint = false
-
--- the program takes a line of client 1 that is a put or a get
+-- the program takes a line of client 1
 unfoldable pub is_taken : {K : ℕ} → Line K → Bool
-is_taken l = (l.client == 1) && is_point l.request
+is_taken l = l.client == 1
 
 -- the program takes each of these lines
 abbrev pub AreTaken : {K : ℕ} → List (Line K) → Type 0

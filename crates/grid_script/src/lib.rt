@@ -15,5 +15,5 @@ mod text;
 pub use printer::{add_first, add_row, rows_of};
 pub use reader::read_script;
 pub use script::{Script, ScriptFault};
-pub use taken::{read_taken, taken_law};
-pub use text::{LINE, Text, add_client, add_front};
+pub use taken::taken_law;
+pub use text::{LINE, Text, add_client, add_front, add_made};

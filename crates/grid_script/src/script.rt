@@ -11,8 +11,8 @@ const LONGEST: usize = 16_777_216;
 /// Why a text is no script.
 #[derive(Clone, Copy, Debug, PartialEq, Eq)]
 pub enum ScriptFault {
-    /// The first line that is nothing of the grammar or, to `read_taken`, asks what the program does not take, counted from
-    /// 1; 0 where the text has too many bytes.
+    /// The first line that is nothing of the grammar or asks something as another client than 1, counted from 1; 0 where
+    /// the text has too many bytes.
     Line(u64),
     /// There was no memory for the list.
     NoMemory,

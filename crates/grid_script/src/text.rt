@@ -1,7 +1,7 @@
 //! The parts of a printed line.
 ghost use Rattle.std.specs.Prelude.{◌≡◌, ◌≤◌, ◌+◌, ◌++◌, length, decimal, codes};
 ghost use Rattle.arrayvec.specs.ArrayVec.{array_vec_len};
-ghost use Rattle.grid_script.specs.Fields.{found_text};
+ghost use Rattle.grid_script.specs.Fields.{found_text, made_line};
 ghost use Rattle.grid_model.specs.Text.{hex_text, numbered, refusal_text, ended, front_line};
 
 use arrayvec::ArrayVec;
@@ -145,4 +145,14 @@ pub fn add_client(client: u32, out: &mut Text)
 {
     print_numbered(b"client ", client.into(), out);
     print_bytes(b"\n", out);
+}
+
+/// Adds the line of a file that was made, with the number of its pages.
+pub fn add_made(pages: u64, out: &mut Text)
+    requires room { array_vec_len out.old + LINE ≤ 4096 }
+    ensures line { out.new.items ≡ out.old.items ++ made_line pages }
+    ensures len { array_vec_len out.new ≤ array_vec_len out.old + LINE }
+{
+    print_numbered(b"made ", pages, out);
+    print_bytes(b" pages\n", out);
 }

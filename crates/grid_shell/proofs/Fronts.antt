@@ -6,6 +6,7 @@ use Rattle.std.proofs.lemmas.List.{length-take, take_all}
 use Rattle.grid_types.specs.declared.request.Line.{Line}
 use Rattle.grid_model.specs.Script.{longest, lines, asked, meanings}
 use Rattle.grid_script.specs.Taken.{IsScript, IsFirstRefused, IsFault}
+use Rattle.grid_shell.specs.Inputs.{LostAtMost, most_read}
 
 -- the most that is read
 abbrev pub most : ℕ
@@ -43,3 +44,8 @@ fault-take K all n f = record {
   long = λ lt. f.long (longest-take all lt);
   short = λ le. subst (λ bytes. IsFirstRefused K bytes n) (take-most all le) (f.short (subst (λ bytes. length bytes ≤ longest) (sym (take-most all le)) le));
 }
+
+-- what is lost of an input, in the words of the longest script
+pub lost-most : (old new : List ℕ) → LostAtMost most old new → LostAtMost most_read old new
+unfolding longest
+lost-most old new l = l

@@ -8,8 +8,8 @@ use Rattle.disk_trait.specs.Streams.{AddsFront}
 use Rattle.grid_types.specs.declared.request.Reply.{Reply}
 use Rattle.grid_types.specs.declared.update.Record.{Record}
 use Rattle.grid_model.specs.Text.{numbered, ended, reply_lines, row_text, front_line, group_lines, text_lines, text}
-use Rattle.grid_shell.specs.Printing.{Passes}
-use Rattle.grid_shell.specs.Replies.{group_of}
+use Rattle.client_sessions.specs.Runs.{group_of_one}
+use Rattle.grid_shell.specs.Printing.{Passes, session_text}
 use Rattle.grid_shell.proofs.Adding.{adds_longer, passes_more}
 
 -- the text of a reply: its lines, each with its end
@@ -33,18 +33,18 @@ flat_map-ended : {K : ℕ} (rs : List (Reply K)) → flat_map ended (flat_map re
 flat_map-ended [] = refl
 flat_map-ended (r ∷ rs) = flat_map-append ended (reply_lines r) (flat_map reply_lines rs) ∙ ap (λ (t : List ℕ). reply_text r ++ t) (flat_map-ended rs)
 
-flat_map-group_of : {K : ℕ} (rs : List (Reply K)) → flat_map ended (flat_map group_lines (group_of rs)) ≡ title rs ++ flat_map reply_text rs
-flat_map-group_of [] = refl
-flat_map-group_of (r ∷ rs) =
+flat_map-group : {K : ℕ} (rs : List (Reply K)) → flat_map ended (flat_map group_lines (group_of_one 1 rs)) ≡ title rs ++ flat_map reply_text rs
+flat_map-group [] = refl
+flat_map-group (r ∷ rs) =
     ap (flat_map ended) (append-nil (numbered (codes "client ") 1 ∷ flat_map reply_lines (r ∷ rs)))
     ∙ ap (λ (t : List ℕ). ended (numbered (codes "client ") 1) ++ t) (flat_map-ended (r ∷ rs))
 
-pub all_text : {K : ℕ} (rs : List (Reply K)) (n front : ℕ) → length rs ≡ n → text_to rs n ++ front_line front ≡ text (group_of rs) front
+pub all_text : {K : ℕ} (rs : List (Reply K)) (n front : ℕ) → length rs ≡ n → text_to rs n ++ front_line front ≡ session_text rs front
 unfolding text text_lines front_line
 all_text rs n front e =
     ap (λ qs. (title rs ++ flat_map reply_text qs) ++ ended (numbered (codes "front ") front)) (take_all n rs (omega (arith, e)))
-    ∙ (λ i. sym (flat_map-group_of rs) i ++ sym (append-nil (ended (numbered (codes "front ") front))) i)
-    ∙ sym (flat_map-append ended (flat_map group_lines (group_of rs)) (numbered (codes "front ") front ∷ []))
+    ∙ (λ i. sym (flat_map-group rs) i ++ sym (append-nil (ended (numbered (codes "front ") front))) i)
+    ∙ sym (flat_map-append ended (flat_map group_lines (group_of_one 1 rs)) (numbered (codes "front ") front ∷ []))
 
 -- the line of a row, with its end
 abbrev pub row_line : {K : ℕ} → Record K → List ℕ
@@ -87,7 +87,7 @@ passes_reply rs i r lt is buffered old now p =
     (text_more rs i r lt ∙ ap (λ q. text_to rs i ++ reply_text q) (sym is))
 
 -- a front of the first replies is one of the whole text
-pub adds_text : {K : ℕ} (rs : List (Reply K)) (i front : ℕ) (old new : List ℕ) → AddsFront old new (text_to rs i) → AddsFront old new (text (group_of rs) front)
+pub adds_text : {K : ℕ} (rs : List (Reply K)) (i front : ℕ) (old new : List ℕ) → AddsFront old new (text_to rs i) → AddsFront old new (session_text rs front)
 adds_text rs i front old new a =
     let rest = flat_map reply_text (drop i rs) in
     let lines : text_to rs i ++ rest ≡ text_to rs (length rs) =

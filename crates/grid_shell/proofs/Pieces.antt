@@ -1,5 +1,5 @@
 -- Input that comes piece by piece.
-use Rattle.std.proofs.Common.{◌≡◌, ◌≤◌, ◌+◌, ℕ, List, ◌++◌, length, take, drop, sym, ap, ◌∙◌, length-append, arith}
+use Rattle.std.proofs.Common.{◌≡◌, ◌≤◌, ◌+◌, ℕ, List, ◌++◌, length, take, drop, sym, ap, ◌∙◌, length-append, append_assoc, arith}
 use Rattle.std.proofs.lemmas.List.{take-append-le, drop-drop, length-take-le}
 use Rattle.disk_trait.specs.Streams.{Takes}
 use Rattle.disk_trait.proofs.Pieces.{take_split}
@@ -28,3 +28,7 @@ module _ (all had out other now left rest : List ℕ) (n : ℕ) (le : n ≤ leng
   -- and the rest is what stands behind it
   pub rest_more : rest ≡ drop (length now) all
   rest_more = t.left ∙ ap (drop n) l ∙ drop-drop n (length had) all ∙ ap (λ (k : ℕ). drop k all) (sym (length-in_hand had out other now n le e))
+
+-- three texts added one after the other
+pub append_three : (r0 r1 r2 r3 a b c : List ℕ) → r1 ≡ r0 ++ a → r2 ≡ r1 ++ b → r3 ≡ r2 ++ c → r3 ≡ r0 ++ (a ++ (b ++ c))
+append_three r0 r1 r2 r3 a b c e1 e2 e3 = e3 ∙ rw (e2, e1) (simp append_assoc)

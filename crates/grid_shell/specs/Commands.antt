@@ -1,38 +1,68 @@
--- What a command line asks, and which the program takes.
-use Rattle.std.specs.Prelude.{◌≡◌, ◌≢◌, ℕ, List, [], ◌∷◌, map, codes, Result, Ok, Err, string_bytes}
-use Rattle.std.specs.Vec.Iter.{into_iter_items}
-use Rattle.std.specs.IoError.{error_kind}
-use Rattle.std.specs.declared.io.Error.{Error}
-use Rattle.std.specs.declared.io.ErrorKind.TheVariants.{OutOfMemory}
-use Rattle.std.specs.declared.string.String.{String}
-use Rattle.std.specs.declared.vec.IntoIter.{IntoIter}
+-- What a call of the program did: which command its words mean, and what came of that.
+use Rattle.std.specs.Prelude.{◌≡◌, ◌⊎◌, ◌++◌, ℕ, List, IsTrue, ⊤, string_bytes}
+use Rattle.disk_trait.specs.declared.bay.Bay.{Ghosts as Bays}
+use Rattle.disk_trait.specs.declared.disk.Disk.{Ghosts as Disks}
+use Rattle.disk_trait.specs.declared.sink.Sink.{Ghosts as Sinks}
+use Rattle.disk_trait.specs.declared.source.Source.{Ghosts as Sources}
+use Rattle.disk_trait.specs.Bay.{SameElsewhere}
+use Rattle.disk_trait.specs.Causes.{Rose}
+use Rattle.grid_words.specs.Commands.{Mean, file_of}
+use Rattle.grid_words.specs.declared.command.Command.{Command}
+use Rattle.grid_words.specs.declared.command.Command.TheVariants.{Make, Run, Check, Dump, Gen}
+use Rattle.grid_shell.specs.declared.ending.Ending.{Ending}
+use Rattle.grid_shell.specs.declared.ending.Ending.TheVariants.{BadWords, Memory}
+use Rattle.grid_shell.specs.Endings.{status_of, error_text}
+use Rattle.grid_shell.specs.Files.{IsSilent, RunsFile, MakesFile}
 
--- the name of a file: a word that is not empty and does not begin with a dash
-abbrev pub IsFileName : List ℕ → Type 0
-IsFileName [] = ⊥
-IsFileName (b ∷ bs) = b ≢ 45
+-- the commands that the program has today
+abbrev pub IsOffered : Command → Type 0
+IsOffered (Make file shape) = ⊤
+IsOffered (Run file) = ⊤
+IsOffered other = ⊥
 
--- the words are `run` and the name of a file
-pub record IsRun (words : List (List ℕ)) (name : List ℕ) : Type 0 where
-  pub words_are : words ≡ codes "run" ∷ name ∷ []
-  pub names : IsFileName name
+-- a command is to run a script on a file
+abbrev pub IsRun : Command → Type 0
+IsRun (Run file) = ⊤
+IsRun other = ⊥
 
-module _ {Z : Type 0} where
-  -- the bytes of some texts behind the first, in order
-  abbrev pub behind_first : List (String Z) → List (List ℕ)
-  behind_first [] = []
-  behind_first (t ∷ ts) = map string_bytes ts
+-- words ask nothing that the program does
+abbrev pub AskNothing : List (List ℕ) → Type 0
+AskNothing words = (c : Command) → IsOffered c → Mean words c → ⊥
 
-  -- the words of a command line: its arguments behind the program's name, in order; one that the system does not give has none
-  abbrev pub words_of : Result (IntoIter (String Z) Z) Error → List (List ℕ)
-  words_of (Ok arguments) = behind_first (into_iter_items arguments)
-  words_of (Err why) = []
+-- bay, input and output are as they were
+pub record IsUntouched {B S O : Type 0} (bay : B × B) (input : S × S) (out : O × O) : Type 0 where
+  pub bay_same : bay.1 ≡ bay.0
+  pub nothing : IsSilent input out
 
-  -- a command line does not ask to run a file
-  abbrev pub AsksNothing : Result (IntoIter (String Z) Z) Error → Type 0
-  AsksNothing given = (name : List ℕ) → IsRun (words_of given) name → ⊥
+-- a command was done
+abbrev pub Does : {B D S O : Type 0} → Bays B D → Disks D → Sources S → Sinks O → Command → B × B → S × S → O × O → Ending → Type 0
+Does b d s o (Make file shape) bay input out ending = MakesFile b d o (string_bytes file) shape bay out ending × (input.1 ≡ input.0)
+Does b d s o (Run file) bay input out ending = RunsFile b d s o (string_bytes file) bay input out ending
+Does b d s o other bay input out ending = (ending ≡ BadWords) × IsUntouched bay input out
 
-  -- the system had no memory to give a command line
-  abbrev pub LacksMemory : Result (IntoIter (String Z) Z) Error → Type 0
-  LacksMemory (Ok arguments) = ⊥
-  LacksMemory (Err why) = error_kind why ≡ OutOfMemory
+-- the words were not taken for a command: they mean none, or there was no memory; and nothing was touched
+pub record EndsUnasked {B S O : Type 0} (words : List (List ℕ)) (bay : B × B) (input : S × S) (out : O × O) (ending : Ending) : Type 0 where
+  pub ends : ((ending ≡ BadWords) × AskNothing words) ⊎ (ending ≡ Memory)
+  pub untouched : IsUntouched bay input out
+
+-- the words mean this command, it was done, and nothing lies otherwise under another name
+pub record EndsAsked {B D S O : Type 0} (b : Bays B D) (d : Disks D) (s : Sources S) (o : Sinks O) (words : List (List ℕ)) (bay : B × B) (input : S × S) (out : O × O) (ending : Ending) : Type 0 where
+  pub command : Command
+  pub meant : Mean words command
+  pub done : Does b d s o command bay input out ending
+  pub elsewhere : SameElsewhere b.tells b.place (file_of command) bay.0 bay.1
+
+-- what came of the words of a command line
+abbrev pub Came : {B D S O : Type 0} → Bays B D → Disks D → Sources S → Sinks O → List (List ℕ) → B × B → S × S → O × O → Ending → Type 0
+Came b d s o words bay input out ending = EndsUnasked words bay input out ending ⊎ EndsAsked b d s o words bay input out ending
+
+-- an ending was told on the error sink, unless that failed
+abbrev pub IsTold : {E : Type 0} → Sinks E → E × E → Ending → Type 0
+IsTold e err ending = IsTrue (e.tells err.0) → Rose (e.fault_count err.0) (e.fault_count err.1) ⊎ (e.received err.1 ≡ e.received err.0 ++ error_text ending)
+
+-- what a call of the program did, how that ended, what was told of it, and its status
+pub record Did {B D S O E : Type 0} (b : Bays B D) (d : Disks D) (s : Sources S) (o : Sinks O) (e : Sinks E) (words : List (List ℕ)) (bay : B × B) (input : S × S) (out : O × O) (err : E × E) (status : ℕ) : Type 0 where
+  pub ending : Ending
+  pub ends : status ≡ status_of ending
+  pub came : Came b d s o words bay input out ending
+  pub told : IsTold e err ending

@@ -1,9 +1,8 @@
-pub mod Commands
 pub mod Statuses
 pub mod Endings
-pub mod Standing
-pub mod Calls
-pub mod Replies
 pub mod Printing
+pub mod Inputs
 pub mod Runs
-pub mod Ran
+pub mod Files
+pub mod Headline
+pub mod Commands

@@ -1,5 +1,5 @@
--- The statuses of a run, and what is told of each.
-use Rattle.std.specs.Prelude.{◌≡◌, ◌≤◌, ◌⊎◌, ◌++◌, ◌==◌, ◌||◌, ℕ, List, [], ◌∷◌, codes, decimal, max, if◌then◌else◌}
+-- The statuses of the program.
+use Rattle.std.specs.Prelude.{◌≡◌, ◌≤◌, ◌⊎◌, ℕ, List, [], ◌∷◌, max}
 use Rattle.grid_types.specs.declared.refusal.Refusal.{Refusal}
 use Rattle.grid_types.specs.declared.refusal.Refusal.TheVariants as refusal
 use Rattle.grid_types.specs.declared.request.Reply.{Reply}
@@ -36,19 +36,3 @@ status_of_reply _ = 0
 unfoldable pub greatest_status : {K : ℕ} → List (Reply K) → ℕ
 greatest_status [] = 0
 greatest_status (r ∷ rs) = max (status_of_reply r) (greatest_status rs)
-
--- the status where a device has failed too: 5 at least, but for words and scripts that were refused before
-abbrev pub status_with_fault : ℕ → ℕ
-status_with_fault s = if (s == 2) || (s == 3) then s else max 5 s
-
--- a status of a run that prints nothing: its script has a fault, a device failed, or there was no memory
-abbrev pub IsSilent : ℕ → Type 0
-IsSilent s = (s ≡ 3) ⊎ (s ≡ 5) ⊎ (s ≡ 6)
-
--- what is told of a status on the error sink; with status 3 a line is named
-abbrev pub error_text : ℕ → ℕ → List ℕ
-error_text status line =
-    if status == 2 then codes "grid: words\n" else (
-    if status == 3 then codes "grid: script line " ++ (decimal line ++ codes "\n") else (
-    if status == 5 then codes "grid: device\n" else (
-    if status == 6 then codes "grid: memory\n" else [])))

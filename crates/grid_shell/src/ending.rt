@@ -1,18 +1,28 @@
-//! How a run ends.
+//! How a command ends.
 ghost use Rattle.std.specs.Prelude.{◌≡◌, ◌⊎◌, max};
-ghost use Rattle.grid_shell.specs.Statuses.{IsStatus, status_of_refusal, status_of_reply, greatest_status, status_with_fault};
+ghost use Rattle.grid_shell.specs.Statuses.{IsStatus, status_of_refusal, status_of_reply, greatest_status};
 
 use grid_types::{Refusal, Reply};
 
-/// How a run ends. Each ending has a status of its own, and later ones have greater statuses.
+/// How a command ends. Each ending has its status.
 #[derive(Clone, Copy, Debug, PartialEq, Eq)]
 pub enum Ending {
-    /// Every line was answered.
+    /// All was done and answered.
     Done,
     /// The words are none of the written forms.
     BadWords,
     /// The first line of the script that the program refuses; 0 where the script is too long.
     BadScript { line: u64 },
+    /// The file is none of ours.
+    ForeignFile,
+    /// The file has a version that is not known.
+    OtherVersion { found: u16 },
+    /// The bytes of that page of the file are not what they have to be.
+    DamagedFile { page: u32 },
+    /// The file has another number of attributes than its header said at first.
+    OtherArity { found: u8 },
+    /// The file can't be opened once more, since a number reached its limit.
+    WornFile { count: u64 },
     /// A line met a page whose bytes are not what they have to be.
     Damaged,
     /// The bay, a disk, the input or the output failed.
@@ -26,7 +36,7 @@ pub enum Ending {
 }
 
 impl Ending {
-    ghost use Rattle.grid_shell.specs.Endings.{status_of};
+    ghost use Rattle.grid_shell.specs.Endings.{status_of, with_fault, unopened, IsOfLines};
 
     /// The status that the process ends with.
     pub fn status(self) -> u8
@@ -37,18 +47,21 @@ impl Ending {
             Ending::Done => 0,
             Ending::BadWords => 2,
             Ending::BadScript { .. } => 3,
-            Ending::Damaged => 4,
+            Ending::ForeignFile
+            | Ending::OtherVersion { .. }
+            | Ending::DamagedFile { .. }
+            | Ending::OtherArity { .. }
+            | Ending::Damaged => 4,
             Ending::Device => 5,
             Ending::Memory => 6,
-            Ending::Refused => 7,
+            Ending::WornFile { .. } | Ending::Refused => 7,
             Ending::Unsure => 8,
         }
     }
 
-    /// The ending where a device has failed too.
+    /// The ending where a device has failed too. What ended a run before its first line stays.
     pub fn with_fault(self) -> Ending
-        ensures status { status_of result ≡ status_with_fault (status_of self) }
-        ensures kept { (result ≡ self) ⊎ (result ≡ Ending.Device) }
+        ensures { result ≡ with_fault self }
     {
         match self {
             Ending::Done | Ending::Damaged => Ending::Device,
@@ -56,9 +69,31 @@ impl Ending {
         }
     }
 
+    /// The ending of a file that is not opened.
+    pub fn unopened(refusal: Refusal) -> Ending
+        ensures { result ≡ unopened refusal }
+    {
+        match refusal {
+            Refusal::NoMemory => Ending::Memory,
+            Refusal::ReadFault | Refusal::WriteFault => Ending::Device,
+            Refusal::Unsure { .. } | Refusal::Stopped { .. } => Ending::Unsure,
+            Refusal::Foreign => Ending::ForeignFile,
+            Refusal::Version { found } => Ending::OtherVersion { found },
+            Refusal::Damaged { page } => Ending::DamagedFile { page },
+            Refusal::Arity { found } => Ending::OtherArity { found },
+            Refusal::Worn { count } => Ending::WornFile { count },
+            Refusal::Full { .. }
+            | Refusal::NoCut { .. }
+            | Refusal::Seats
+            | Refusal::BadShape
+            | Refusal::BadQuery => Ending::Refused,
+        }
+    }
+
     /// The one of greater status.
     fn or_worse(self, other: Ending) -> Ending
-        ensures { status_of result ≡ max (status_of self) (status_of other) }
+        ensures status { status_of result ≡ max (status_of self) (status_of other) }
+        ensures one { (result ≡ self) ⊎ (result ≡ other) }
     {
         if self.status() < other.status() {
             other
@@ -68,7 +103,8 @@ impl Ending {
     }
 
     fn of_refusal(refusal: &Refusal) -> Ending
-        ensures { status_of result ≡ status_of_refusal refusal.now }
+        ensures status { status_of result ≡ status_of_refusal refusal.now }
+        ensures line { IsOfLines result }
     {
         match refusal {
             Refusal::NoMemory => Ending::Memory,
@@ -88,7 +124,8 @@ impl Ending {
     }
 
     fn of_line<const K: usize>(reply: &Reply<K>) -> Ending
-        ensures { status_of result ≡ status_of_reply reply.now }
+        ensures status { status_of result ≡ status_of_reply reply.now }
+        ensures line { IsOfLines result }
     {
         match reply {
             Reply::Put(_)
@@ -104,7 +141,8 @@ impl Ending {
 
     /// The ending of greatest status that the lines make.
     pub fn worst<const K: usize>(replies: &[Reply<K>]) -> Ending
-        ensures { status_of result ≡ greatest_status replies.now }
+        ensures status { status_of result ≡ greatest_status replies.now }
+        ensures line { IsOfLines result }
     {
         let mut worst = Ending::Done;
         for reply in replies {

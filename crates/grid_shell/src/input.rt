@@ -1,7 +1,7 @@
 //! The script, taken from a source.
 ghost use Rattle.std.specs.Prelude.{◌≡◌, ◌≤◌, ◌<◌, ◌+◌, ◌^◌, [], IsTrue, IsErrOf, IfOk, IfErr, OnErr, length, take, drop, vec_len};
 ghost use Rattle.disk_trait.specs.Causes.{Rose};
-ghost use Rattle.grid_shell.specs.Runs.{LostAtMost};
+ghost use Rattle.grid_shell.specs.Inputs.{LostAtMost};
 
 use disk_trait::{Source, SourceFailed};
 use std::alloc::{AllocError, Global};

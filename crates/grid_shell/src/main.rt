@@ -1,16 +1,13 @@
 //! The program: a grid file on the command line.
 #![tactic(auto)]
 
-mod command;
 mod ending;
+mod files;
 mod input;
-mod lone;
 mod printing;
 mod run;
-mod session;
+mod script;
 mod telling;
-#[cfg(test)]
-mod tests;
 mod work;
 
 use disk_file::{FileBay, StreamSink, StreamSource};

@@ -35,13 +35,13 @@ asked-push ls l = map-append (λ x. x.request) ls (l ∷ [])
 
 -- a fault that was counted in some calls was counted in more calls around them
 module _ {D : Type 0} (g : Ghosts D) (first before now last : D) (reads : g.read_count first ≤ g.read_count before) (reads_on : g.read_count now ≤ g.read_count last) (writes : g.write_count first ≤ g.write_count before) (writes_on : g.write_count now ≤ g.write_count last) where
-  refusal-within : (e : Refusal) → IsCountedFault g before now e → IsCountedFault g first last e
+  pub refusal-within : (e : Refusal) → IsCountedFault g before now e → IsCountedFault g first last e
   refusal-within refusal.ReadFault rose = rose_within (g.read_count first) (g.read_count before) (g.read_count now) (g.read_count last) reads reads_on rose
   refusal-within refusal.WriteFault rose = rose_within (g.write_count first) (g.write_count before) (g.write_count now) (g.write_count last) writes writes_on rose
   refusal-within (refusal.Unsure faults more) rose = rose_within (g.write_count first) (g.write_count before) (g.write_count now) (g.write_count last) writes writes_on rose
   refusal-within other rose = tt
 
-  fault-within : {K : ℕ} (r : Reply K) → CountsFault g before now r → CountsFault g first last r
+  pub fault-within : {K : ℕ} (r : Reply K) → CountsFault g before now r → CountsFault g first last r
   fault-within (told.Refused e) counted = refusal-within e counted
   fault-within other counted = tt
 

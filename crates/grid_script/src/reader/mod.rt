@@ -1,7 +1,9 @@
 //! Scripts read from bytes.
-ghost use Rattle.std.specs.Prelude.{◌≡◌, ◌<◌, ◌≤◌, ◌+◌, ◌^◌, ◌∷◌, ◌++◌, [], ℕ, List, Ok, Err, IfOk, IsErrOf, OnOk, length};
-ghost use Rattle.grid_model.specs.Script.{Meaning, meaning, meanings, asked, lines};
+ghost use Rattle.std.specs.Prelude.{◌≡◌, ◌<◌, ◌≤◌, ◌+◌, ◌^◌, ◌∷◌, ◌++◌, [], ℕ, List, Ok, IfOk, IsErrOf, OnOk, length};
+ghost use Rattle.grid_model.specs.Script.{Meaning, Asks, meaning, meanings, asked, longest};
+ghost use Rattle.grid_model.specs.ScriptLaws.{speaker};
 ghost use Rattle.grid_script.specs.Reading.{meant};
+ghost use Rattle.grid_script.specs.Taken.{AreTaken, IsScript, IsFault, IsFirstRefused, Refuses};
 ghost use Rattle.grid_script.specs.declared.script.ScriptFault.TheVariants as fault;
 
 pub mod meanings;
@@ -31,15 +33,22 @@ struct Reading<const K: usize> {
 impl<const K: usize> Reading<K> {
     ghost use Rattle.grid_script.specs.Reading.{read_on};
 
-    /// Adds a request of the client that asks.
+    /// Adds a request of the client that asks. The program refuses those of any client but 1.
+    #[tactic(auto, unfolding(crate::specs::Taken::is_taken))]
     fn add(&mut self, request: Request<K>) -> Result<(), ScriptFault>
         ensures client { self.new.client ≡ self.old.client }
         ensures number { self.new.number ≡ self.old.number }
         ensures added { OnOk result (self.new.list.items
             ≡ self.old.list.items
             ++ (record { client = self.old.client; request = request.entry }) ∷ []) }
-        ensures fault { (n : ℕ) → IsErrOf result (fault.Line n) → ⊥ }
+        ensures passed { OnOk result (Refuses self.old.client (Asks request.entry) → ⊥) }
+        ensures fault { (n : ℕ) → IsErrOf result (fault.Line n) → self.old.number ≡ n }
+        ensures refused { (n : ℕ) → IsErrOf result (fault.Line n)
+            → Refuses self.old.client (Asks request.entry) }
     {
+        if self.client != 1 {
+            return Err(ScriptFault::Line(self.number));
+        }
         let client = self.client;
         match self.list.push(Line { client, request }) {
             Ok(()) => Ok(()),
@@ -47,14 +56,20 @@ impl<const K: usize> Reading<K> {
         }
     }
 
-    /// Takes in what the next line says.
+    /// Takes in what the next line says, unless the program refuses it.
     fn take(&mut self, said: Said<K>) -> Result<(), ScriptFault>
         requires { self.old.number < 2 ^ 63 }
-        ensures number { self.new.number ≤ self.old.number + 1 }
-        ensures taken { OnOk result ((ms : List (Meaning K))
+        ensures number { OnOk result (self.new.number ≡ self.old.number + 1) }
+        ensures speaker { OnOk result (self.new.client
+            ≡ speaker self.old.client (meant said.entry)) }
+        ensures read { OnOk result ((ms : List (Meaning K))
             → read_on self.old (meant said.entry ∷ ms) ≡ read_on self.new ms) }
-        ensures fault { (n : ℕ) → IsErrOf result (fault.Line n) → (ms : List (Meaning K))
-            → asked self.old.number self.old.client (meant said.entry ∷ ms) ≡ Err n }
+        ensures passed { OnOk result (Refuses self.old.client (meant said.entry) → ⊥) }
+        ensures taken { OnOk result (AreTaken self.old.list.items
+            → AreTaken self.new.list.items) }
+        ensures fault { (n : ℕ) → IsErrOf result (fault.Line n) → self.old.number ≡ n }
+        ensures refused { (n : ℕ) → IsErrOf result (fault.Line n)
+            → Refuses self.old.client (meant said.entry) }
     {
         match said {
             Said::Silent => {}
@@ -67,12 +82,12 @@ impl<const K: usize> Reading<K> {
     }
 }
 
-/// The lines of a text that ask something, each with its client, unless one is nothing of the grammar.
+/// The lines of a text that ask something, unless the program refuses one.
 fn read_lines<const K: usize>(alloc: Global, bytes: &[u8]) -> Result<Vec<Line<K>>, ScriptFault>
     requires { K ≤ 4 }
     ensures read { IfOk result (λ list. asked 1 1 (meanings K bytes.now) ≡ Ok list.items) }
-    ensures fault { (n : ℕ) → IsErrOf result (fault.Line n)
-        → asked 1 1 (meanings K bytes.now) ≡ Err n }
+    ensures taken { IfOk result (λ list. AreTaken list.items) }
+    ensures fault { (n : ℕ) → IsErrOf result (fault.Line n) → IsFirstRefused K bytes.now n }
 {
     let mut reading = Reading {
         list: Vec::new(alloc),
@@ -88,13 +103,17 @@ fn read_lines<const K: usize>(alloc: Global, bytes: &[u8]) -> Result<Vec<Line<K>
     Ok(reading.list)
 }
 
-/// The script that the bytes write: Ok exactly where they are one, but for want of memory.
+/// The script that the bytes write, or the first line that the program refuses: one that is nothing of the grammar, or that
+/// asks something as another client than 1. A text that is too long is line 0, before any memory is taken and any line is
+/// read.
 #[tactic(auto, unfolding(grid_model::specs::Script::lines))]
 pub fn read_script<const K: usize>(alloc: Global, bytes: &[u8]) -> Result<Script<K>, ScriptFault>
     requires some { 1 ≤ K }
     requires few { K ≤ 4 }
-    ensures read { IfOk result (λ script. lines K bytes.now ≡ Ok script) }
-    ensures fault { (n : ℕ) → IsErrOf result (fault.Line n) → lines K bytes.now ≡ Err n }
+    ensures read { IfOk result (IsScript bytes.now) }
+    ensures count { IfOk result (λ s. length s ≤ length bytes.now) }
+    ensures fault { (n : ℕ) → IsErrOf result (fault.Line n) → IsFault K bytes.now n }
+    ensures no_memory { IsErrOf result fault.NoMemory → length bytes.now ≤ longest }
 {
     if is_too_long(bytes) {
         return Err(ScriptFault::Line(0));

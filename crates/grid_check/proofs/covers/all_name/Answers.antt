@@ -1,4 +1,4 @@
-use Rattle.std.proofs.Common.{List, sym, ap, ◌∙◌, arith}
+use Rattle.std.proofs.Common.{sym, ◌∙◌, arith}
 use Rattle.grid_check.proofs.Strays.{box_cell, low_first}
 use Rattle.grid_check.proofs.covers.all_name.Goals as goal
 

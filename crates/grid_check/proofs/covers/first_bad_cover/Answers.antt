@@ -1,10 +1,9 @@
-use Rattle.std.proofs.Common.{◌≡◌, ◌≢◌, ◌<◌, ℕ, List, Some, None, length, slice_index, slice_index_or, true≢false, sym, ap, subst, ◌∙◌, arith}
+use Rattle.std.proofs.Common.{◌≢◌, ℕ, List, Some, None, slice_index, slice_index_or, true≢false, sym, ap, subst, ◌∙◌, arith}
 use Rattle.grid_types.specs.declared.region.Region.{Region}
 use Rattle.grid_types.specs.Shapes.{data_page}
 use Rattle.grid_types.proofs.Places.{within-limits}
 use Rattle.grid_model.specs.Lawful.{nowhere}
 use Rattle.grid_model.specs.Lists.{product}
-use Rattle.grid_model.specs.Cells.{dims}
 use Rattle.linear_scales.specs.Limited.{scales_of}
 use Rattle.grid_check.specs.Rules.{IsNamedBy, IsNumbered}
 use Rattle.grid_check.specs.Reads.{AreNamed}

@@ -1,4 +1,4 @@
-use Rattle.std.proofs.Common.{ℕ, slice_index, slice_index_or, arith}
+use Rattle.std.proofs.Common.{slice_index, slice_index_or, arith}
 use Rattle.linear_scales.specs.Limited.{scales_of}
 use Rattle.grid_check.specs.Covers.{region_under}
 use Rattle.grid_check.specs.declared.holding.Holding.{Holding}

@@ -1,4 +1,4 @@
-use Rattle.std.proofs.Common.{Some, None, ℕ, get_or, slice_index, true≢false, ap, sym, subst, ◌∙◌, arith}
+use Rattle.std.proofs.Common.{Some, None, ℕ, get_or, slice_index, true≢false, ap, sym, ◌∙◌, arith}
 use Rattle.grid_types.specs.declared.region.Region.{Region}
 use Rattle.grid_types.specs.Shapes.{data_page}
 use Rattle.grid_types.proofs.Places.{within-limits}

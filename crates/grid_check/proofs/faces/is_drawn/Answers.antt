@@ -1,4 +1,4 @@
-use Rattle.std.proofs.Common.{◌≡◌, ◌∙◌, nat_eq, true, sym, ap, eq-eqb, eqb-true}
+use Rattle.std.proofs.Common.{◌∙◌, sym, ap, eq-eqb, eqb-true}
 use Rattle.grid_model.specs.Scales.{low, high}
 use Rattle.grid_check.proofs.Ends.{drawn_so, drawn_low, drawn_high}
 use Rattle.grid_check.proofs.faces.is_drawn.Goals as goal

@@ -1,4 +1,4 @@
-use Rattle.std.proofs.Common.{◌≡◌, ◌≤◌, sym, subst, arith}
+use Rattle.std.proofs.Common.{sym, subst, arith}
 use Rattle.grid_types.proofs.Places.{within-limits}
 use Rattle.grid_cells.specs.Dims.{IsDims}
 use Rattle.linear_scales.specs.Limited.{scales_of}

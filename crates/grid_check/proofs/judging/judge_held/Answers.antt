@@ -1,11 +1,9 @@
-use Rattle.std.proofs.Common.{◌≡◌, ◌<◌, ◌+◌, ◌∙◌, ℕ, List, Option, None, length, slice_index, sym, ap, subst, refl, arith}
+use Rattle.std.proofs.Common.{◌∙◌, None, sym, ap, subst, refl, arith}
 use Rattle.grid_types.proofs.Places.{within-limits}
 use Rattle.grid_model.specs.Lists.{product}
-use Rattle.grid_model.specs.Cells.{dims, cells}
-use Rattle.linear_scales.specs.Limited.{scales_of}
 use Rattle.linear_scales.specs.Roots.{root_fields_of, area_of, whole_of}
-use Rattle.grid_check.specs.Reads.{AreNamed, AreHeld}
-use Rattle.grid_check.specs.Verdicts.{order, Judges, KeepsBelow}
+use Rattle.grid_check.specs.Reads.{AreNamed}
+use Rattle.grid_check.specs.Verdicts.{Judges}
 use Rattle.grid_check.specs.declared.verdict.Rule.{Rule}
 use Rattle.grid_check.specs.declared.verdict.Rule.TheVariants.{Face, Cover, Records}
 use Rattle.grid_check.proofs.Breaches.{up_to}

@@ -1,10 +1,7 @@
-use Rattle.std.proofs.Common.{◌≡◌, ◌<◌, ◌∙◌, ℕ, List, Option, Ok, Some, None, length, sym, ap, subst, refl, arith}
-use Rattle.std.specs.Prelude.{IfOk, IsTrue}
+use Rattle.std.proofs.Common.{◌∙◌, Ok, None, length, ap, subst, arith}
 use Rattle.disk_trait.proofs.Calls.{reads_then}
-use Rattle.grid_model.specs.Cells.{cells}
-use Rattle.linear_scales.specs.Limited.{scales_of}
 use Rattle.linear_scales.specs.Roots.{root_fields_of, area_of, whole_of}
-use Rattle.grid_check.specs.Reads.{AreNamed, AreHeld}
+use Rattle.grid_check.specs.Reads.{AreHeld}
 use Rattle.grid_check.specs.Rules.{JudgesBuckets}
 use Rattle.grid_check.specs.Verdicts.{Judges, IsJudgedBelow}
 use Rattle.grid_check.specs.declared.verdict.Rule.TheVariants.{Bucket}
@@ -18,7 +15,7 @@ first_bad_bucket-requires g c =
     let root = c.args.root.now in
     let few = c.requires.few in
     let numbers = c.requires.lawful.area.numbers in
-    (omega (arith, few), (omega (arith, c.requires.size, c.in_ok-breach.ensures.same.extent), (few, (numbers, (number_low s (root_fields_of {K = g.row.K} root) (area_of {K = g.row.K} root) c.requires.lawful.area, omega (arith, c.requires.room, numbers))))))
+    (omega (arith, few), (omega (arith, few), (omega (arith, c.requires.size, c.in_ok-breach.ensures.same.extent), (few, (numbers, (number_low s (root_fields_of {K = g.row.K} root) (area_of {K = g.row.K} root) c.requires.lawful.area, omega (arith, c.requires.room, numbers)))))))
 
 pub returns-in-Some-2-clause-same : goal.returns-in-Some-2-clause-same
 returns-in-Some-2-clause-same g c = reads_then c.in_ok-breach.ensures.same c.in_ok-page.ensures.same

@@ -1,4 +1,4 @@
-use Rattle.std.proofs.Common.{◌<◌, ◌≡◌, ◌+◌, ◌*◌, ℕ, length, min}
+use Rattle.std.proofs.Common.{◌≡◌, ◌+◌, ◌*◌, length, min}
 use Rattle.std.specs.Prelude.{IsTrue}
 use Rattle.grid_types.specs.declared.sizes.TheConstants.{WORDS_ON_PAGE}
 use Rattle.grid_model.specs.Lists.{product}

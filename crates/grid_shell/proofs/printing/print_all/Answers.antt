@@ -1,9 +1,8 @@
 use Rattle.std.proofs.Common.{◌≡◌, ◌∙◌, ◌+◌, Ok, length, sym, arith}
 use Rattle.std.proofs.lemmas.Result.{on_ok_weaker}
-use Rattle.grid_model.specs.Text.{text, front_line}
+use Rattle.grid_model.specs.Text.{front_line}
 use Rattle.disk_trait.specs.declared.sink.SinkFailed.{SinkFailed}
-use Rattle.grid_shell.specs.Printing.{Passes}
-use Rattle.grid_shell.specs.Replies.{group_of}
+use Rattle.grid_shell.specs.Printing.{Passes, session_text}
 use Rattle.grid_shell.proofs.Adding.{adds_next, passes_more, passes_on}
 use Rattle.grid_shell.proofs.Lines.{text_to, all_text, passes_reply, adds_text}
 use Rattle.grid_shell.proofs.printing.print_all.Goals as goal
@@ -23,11 +22,11 @@ returns-in_err-make_room-clause-front g c = λ h.
     adds_text c.args.replies.now c.loop-reply.reply-index c.args.front _ _ (state.front h)
 
 -- all replies and the front have passed into sink and buffer
-whole_text : (g : _) (c : After-put_all g) → Passes {E = SinkFailed} g.O.Sink (text (group_of c.args.replies.now) c.args.front) c.as_slice.result.now c.args.out.now c.make_room.new.out (Ok tt)
+whole_text : (g : _) (c : After-put_all g) → Passes {E = SinkFailed} g.O.Sink (session_text c.args.replies.now c.args.front) c.as_slice.result.now c.args.out.now c.make_room.new.out (Ok tt)
 whole_text g c =
     let n = c.loop-reply.reply-index in
     let end : length c.args.replies.now ≡ n = omega (arith, c.loop-reply-test.false, c.loop-reply.auto.reply-index-end) in
-    passes_more (text_to c.args.replies.now n) c.make_room.new.lines.items c.as_slice.result.now (front_line c.args.front) (text (group_of c.args.replies.now) c.args.front) c.args.out.now c.make_room.new.out
+    passes_more (text_to c.args.replies.now n) c.make_room.new.lines.items c.as_slice.result.now (front_line c.args.front) (session_text c.args.replies.now c.args.front) c.args.out.now c.make_room.new.out
     (passes_on _ _ _ c.args.out.now c.loop-reply.out c.make_room.new.out (Ok tt) c.loop-reply.invariant c.in_ok-make_room.ensures.passes)
     (c.as_slice.ensures.value ∙ c.add_front.ensures.line) (sym (all_text c.args.replies.now n c.args.front end))
 
